@@ -38,6 +38,8 @@ WORKERS = "14"
 RANDOM = 300
 # What a report says of the run alone.
 OF_THE_RUN = ("folder", "seconds")
+# What it has of records in logs alone.
+TIMES = ("timestamp", "source_timestamp", "at_timestamp")
 # How much of an evidence its folds may be: bytes of a value, inputs a transaction, and the share.
 SIZES = [(100, 500, 0.25), (100, 10, 0.25), (100, 1, 0.2), (1000, 500, 0.03), (1000, 10, 0.03), (1000, 1, 0.06)]
 # So much that most inputs are worked off, though they are written by 500.
@@ -126,13 +128,15 @@ def unread(tests, folder, said):
 
 
 def report_of(tests, folder, workers):
+    """A report but for what it says of the run and of times, which folds don't keep; and how many times it has."""
     path = tests.new("report.json")
     if os.path.exists(path):
         os.remove(path)
     tests.run("check", "--quiet", "--workers", workers, "--report", path, folder)
     report = json.loads(read(path))
     tests.same(f"{folder}: how many folds a report has", report.pop("folds"), forms_of(folder).count("fold"))
-    return {name: value for name, value in report.items() if name not in OF_THE_RUN}
+    times = [fault.pop(name) for fault in report.get("faults", []) for name in TIMES if name in fault]
+    return {name: value for name, value in report.items() if name not in OF_THE_RUN}, len(times)
 
 
 def faulty_in(lines):
@@ -172,7 +176,8 @@ def randoms(tests):
         same_answers(tests, path, folds, name, list(mixtures(path))[: 1 if at % 5 else None])
         made = with_folds(path, folds, tests.new("mixed"))
         workers = WORKERS[at % 2]
-        tests.same(f"{name}, report", report_of(tests, made, workers), report_of(tests, path, workers))
+        of_folds = report_of(tests, made, workers)
+        tests.same(f"{name}, report", of_folds, (report_of(tests, path, workers)[0], 0))
         all_of_folds(tests, path, made, folds, name)
 
 

@@ -2,11 +2,11 @@
 """The report that `check --report FILE` writes: for each folder of evidence, against the schema in docs and against what is
 printed; and what is refused.
 
-    python3 -B tests/report.py PROGRAM [REFUSE.SO]
+    python3 -B tests/report.py PROGRAM [REFUSE.SO] [STREAMS.SO]
 
 A report is put together again as the verdict's line and as the lines of the notes, by the texts of the help and of docs/EVIDENCE.md,
-and has to give what was printed. Lines that are wanted are those of the folders' own lists. With REFUSE.SO (tests/refuse.c, built) the
-allocations of a run are refused, each in turn. It needs Python's jsonschema (Debian's python3-jsonschema). Run it in the repository's top folder. The last line is 'N passed, N failed'.
+and has to give what was printed. Lines that are wanted are those of the folders' own lists, times those of another reading of the logs. With REFUSE.SO (tests/refuse.c, built) the
+allocations of a run are refused, each in turn; with STREAMS.SO (tests/streams.c) logs are others where they are read again. It needs Python's jsonschema (Debian's python3-jsonschema). Run it in the repository's top folder. The last line is 'N passed, N failed'.
 """
 import json
 import os
@@ -22,8 +22,10 @@ try:
 except ImportError:
     sys.exit("Python's jsonschema is wanted (Debian's python3-jsonschema)")
 
+import plain_logs
 from random_evidence import Folder, settle
 from reference import escaped
+from story_lines import time_at
 from tallies_reference import group_rows, partition_rows
 
 GOOD = "tests/evidence/row-yes-2"
@@ -118,6 +120,60 @@ def note_line(note):
     return f"eoscheck: note: {NOTES[note['kind']](note)}\n"
 
 
+# ---- the times of records, against a second reading of the logs
+
+TIMES = ("timestamp", "source_timestamp", "at_timestamp")
+# Of so many faults at most they are read.
+MOST = 10
+
+
+def without_times(fault):
+    return {name: value for name, value in fault.items() if name not in TIMES}
+
+
+def places_of(fault):
+    """The places that a fault names, by the names of their times."""
+    if "offset" in fault:
+        return {"timestamp": fault}
+    return {f"{name}_timestamp": fault[name] for name in ("source", "at") if name in fault}
+
+
+def time_of(folder, place):
+    """When the record at a place was written, by the log in which its offset lies; none of a fold."""
+    path = os.path.join(folder, partition(place))
+    bases = [int(name[:20]) for name in os.listdir(path) if name.endswith((".log", ".fold"))] if os.path.isdir(path) else []
+    base = max((base for base in bases if base <= place["offset"]), default=0)
+    path = os.path.join(path, f"{base:020}.log")
+    if not os.path.isfile(path):
+        return None
+    with open(path, "rb") as file:
+        data = file.read()
+    at = 0
+    while at < len(data):
+        try:
+            batch, size = plain_logs.read_batch(data, at)
+        except plain_logs.Refused:
+            return None
+        if batch.base != base:
+            return None
+        if place["offset"] < base + batch.count:
+            return time_at(data, at, place["offset"] - base)
+        at, base = at + size, base + batch.count
+    return None
+
+
+def check_times(folder, report):
+    """Each record that one of the first faults names has its time; one that the logs don't have, or a fold keeps, has none."""
+    same(f"{folder}: times are read", report["timestamps_read"], True)
+    count = 0
+    for at, fault in enumerate(report.get("faults", [])):
+        times = {name: time_of(folder, of) for name, of in places_of(fault).items() if at < MOST}
+        wanted = {name: time for name, time in times.items() if time is not None}
+        same(f"{folder}: times of {fault_line(fault)}", {name: fault[name] for name in TIMES if name in fault}, wanted)
+        count += len(wanted)
+    return count
+
+
 # ---- the tables, against a second program
 
 
@@ -175,6 +231,7 @@ def reported(folder, *words):
     same(f"{folder}: folder", report["folder"], folder)
     same(f"{folder}: folds", report["folds"], 0)
     tables(folder, report)
+    check_times(folder, report)
     return report
 
 
@@ -218,7 +275,23 @@ def members():
     found = report_in(path)
     same("notes that aren't printed", ("".join(map(note_line, found["notes"])), err), (notes, ""))
     first = found["faults"][0]
-    same("beside JSON", json.loads(out), {"answer": "no", "fault": fault_line(first)[3:], "fields": first})
+    same("beside JSON", json.loads(out), {"answer": "no", "fault": fault_line(first)[3:], "fields": without_times(first)})
+
+
+def all_faults():
+    """The times of lists of faults, some of them longer than the list of times."""
+    longest, count, path = 0, 0, os.path.join(scratch, "all.json")
+    for top in ("tests/stories", "tests/evidence"):
+        with open(f"{top}/expected.tsv", encoding="utf-8") as file:
+            rows = [line.split("\t") for line in file]
+        for name, status, _ in rows:
+            if status == "1":
+                run("check", "--quiet", "--all", "--report", path, f"{top}/{name}")
+                report = report_in(path)
+                os.remove(path)
+                count += check_times(f"{top}/{name}", report)
+                longest = max(longest, len(report["faults"]))
+    same("there are times, and longer lists", (count > 50, longest > MOST), (True, True))
 
 
 def odd_id():
@@ -306,14 +379,32 @@ def without_memory(library):
     same("refused allocations are told", told > 100, True)
 
 
+def read_again(library):
+    """Logs that are gone or others where they are read a second time: no time is told that isn't theirs, and all else stands."""
+    folder, path = "tests/stories/34-dup-across-transactions", os.path.join(scratch, "again.json")
+    words = ["check", "--workers", "1", "--report", path, folder]
+    want = reported(folder)
+    same("there are times", [name in want["faults"][0] for name in TIMES], [False, True, True])
+    for what, file, is_read in ("gone", os.path.join(scratch, "absent"), False), ("empty", "/dev/null", True):
+        run(*words, LD_PRELOAD=library, FILE_AGAIN=file)
+        found = report_in(path)
+        os.remove(path)
+        rest = {name: value for name, value in want.items() if name not in ("workers", "seconds")}
+        rest.update({"faults": [without_times(fault) for fault in want["faults"]], "timestamps_read": is_read})
+        same(f"logs that are {what}", {name: found[name] for name in rest}, rest)
+
+
 def main():
     kinds = each_folder()
     members()
+    all_faults()
     odd_id()
     refusals()
     unwritten()
     if len(sys.argv) > 2:
         without_memory(os.path.abspath(sys.argv[2]))
+    if len(sys.argv) > 3:
+        read_again(os.path.abspath(sys.argv[3]))
     wanted = {name["properties"]["code"]["const"] for name in description["definitions"].values() if "code" in name.get("properties", {})}
     same("kinds of faults without a report", sorted(wanted - kinds), [])
     print(f"{passed} passed, {failed} failed")

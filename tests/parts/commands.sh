@@ -3,9 +3,10 @@
 # cause; what runs leave that are killed; small stacks.
 . tests/common.sh
 preloaded refuse
+preloaded streams
 counted coordinators python3 -B tests/coordinator.py "$program"
 counted manifests python3 -B tests/init.py "$program" "$scratch/refuse.so"
-counted reports python3 -B tests/report.py "$program" "$scratch/refuse.so"
+counted reports python3 -B tests/report.py "$program" "$scratch/refuse.so" "$scratch/streams.so"
 
 # the page, beside the lines, the notes and the report of the same check
 counted pages python3 -B tests/page.py "$program" "$scratch/refuse.so"

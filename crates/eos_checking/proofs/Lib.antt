@@ -1,4 +1,5 @@
 pub mod Exits
+pub mod Dated
 pub mod Reports
 pub mod SourceAnswers
 pub mod FolderAnswers

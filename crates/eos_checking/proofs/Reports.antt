@@ -48,6 +48,7 @@ by_kept e logs told all about text k spec same counted epochs verdict faults r =
       are = whole_all e k.whole named told.epochs.now r.notes k.of is_faults epochs noted;
       tallies = tallies_by told.spec.now.apps told.logs.now.parts.items named told.counted.now;
       tabled = tables;
+      dates = told.dates.now;
       says = r.says;
     }
 

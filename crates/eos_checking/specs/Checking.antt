@@ -8,6 +8,7 @@ use Rattle.eos_evidence.specs.Evidence.{EvidenceParts}
 use Rattle.eos_fold.specs.Parts.{PartLog}
 use Rattle.eos_commits.specs.EvidenceLogs.{AreLogsOf}
 use Rattle.eos_source_check.specs.AllFaults.{AreAllFaults}
+use Rattle.eos_report.specs.declared.dates.Dates.{Dates}
 use Rattle.eos_report.specs.Lines.{json_line, list_json}
 use Rattle.eos_report.specs.Pages.{IsPageText}
 use Rattle.eos_report.specs.Reports.{IsReportText}
@@ -68,9 +69,9 @@ IsMadeIf false Says made = made ≡ None
 IsMadeIf true Says None = ⊥
 IsMadeIf true Says (Some text) = Says text
 
--- what is wanted of these beside the answer: the report, whose JSON value is theirs, and the page that says them
-pub record AreMade (wanted : Wanted) (verdict : Verdict) (faults : List Fault) (notes : List Note) (tallies : Tallies) (made : Made) : Type 0 where
-  pub report : IsMadeIf wanted.report (IsReportText wanted.about verdict faults notes tallies) (option_map string_bytes made.report)
+-- what is wanted of these beside the answer: the report, whose JSON value is theirs, with the times of records, and the page that says them
+pub record AreMade (wanted : Wanted) (verdict : Verdict) (faults : List Fault) (dates : Dates) (notes : List Note) (tallies : Tallies) (made : Made) : Type 0 where
+  pub report : IsMadeIf wanted.report (IsReportText wanted.about verdict faults dates notes tallies) (option_map string_bytes made.report)
   pub page : IsMadeIf wanted.page (IsPageText wanted.about verdict faults notes tallies) (option_map string_bytes made.page)
 
 -- a report on this evidence and a page, as they are wanted: of the verdict, of the faults that are told, of the notes and of the tables
@@ -83,7 +84,8 @@ pub record IsReport (e : EvidenceParts) (all : Bool) (wanted : Wanted) (made : M
   pub are : AreAllNotes e notes
   pub tallies : Tallies
   pub tabled : AreTallies e tallies
-  pub says : AreMade wanted verdict faults notes tallies made
+  pub dates : Dates
+  pub says : AreMade wanted verdict faults dates notes tallies made
 
 -- them where anything is wanted, and else none
 abbrev pub IsReportAsked : EvidenceParts → Bool → Option Wanted → Option Made → Type 0

@@ -1,4 +1,5 @@
 pub mod Checking
+pub mod Dates
 pub mod Demands
 pub mod Folders
 pub mod Refused

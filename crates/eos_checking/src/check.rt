@@ -8,7 +8,7 @@ use crate::terms::Terms;
 use eos_base::Workers;
 use eos_check::{Fault, Verdict};
 use eos_ending::Subject;
-use eos_report::{About, fault_list, fault_list_json, json_line, verdict_line};
+use eos_report::{About, Dates, fault_list, fault_list_json, json_line, verdict_line};
 use eos_text::{push_text, push_value};
 use std::alloc::{AllocError, Global};
 
@@ -69,6 +69,8 @@ pub struct Said {
 pub(crate) struct Faults<'a> {
     pub told: &'a [Fault],
     pub all: bool,
+    /// When the records were written that these name.
+    pub dates: &'a Dates,
 }
 
 /// The line of the verdict, or those of all faults.

@@ -9,6 +9,7 @@ ghost use Rattle.eos_source.specs.Saying.{known_at, StandsAt};
 ghost use Rattle.eos_source.specs.Said.{known_by};
 ghost use Rattle.eos_text.specs.Writing.{WritesFront, WritesFrontOf};
 ghost use Rattle.eos_checking.specs.Checking.{IsCheckAnswer};
+ghost use Rattle.eos_checking.specs.Dates.{IsDated, IsDatedIn};
 ghost use Rattle.eos_checking.specs.Folders.{IsToldOf, HoldsAsRead, HoldsOf};
 ghost use Rattle.eos_checking.specs.Sources.{IsAnswerFor};
 ghost use Rattle.eos_checking.specs.Refused.{IsFirst};
@@ -54,6 +55,7 @@ fn answer_pieces<S: Source, T: Timed, R: Threads + Sync>(
 ) -> Result<SourceAnswer, Unlisted<S::Fault>>
     ensures answer { IfOk result (λ answer. HoldsAsRead (known_by (S.said pieces.entry.source.now) (S.is_log pieces.entry.source.now)) pieces.entry.shape.now asked.now.all
         (IsAnswerFor asked.now.subject asked.now.json asked.now.all asked.now.quiet asked.now.terms asked.now.report answer)) }
+    ensures dated { IfOk result (λ answer. IsDated (known_by (S.said pieces.entry.source.now) (S.is_log pieces.entry.source.now)) pieces.entry.shape.now.partitions asked.now.report answer.report) }
     ensures opened { IfOk result (λ answer. AreOpened (S.outcomes pieces.entry.source.now) (pieces_of pieces.entry.shape.now)) }
     ensures refused { IfErr result (IsUntold (S.outcomes pieces.entry.source.now) (S.Fault.from_gives alloc_error) (pieces_of pieces.entry.shape.now) asked.now.all) }
 {
@@ -77,6 +79,7 @@ fn answer_shape<D: Disk, T: Timed + Watch, R: Threads + Sync>(
 ) -> Result<SourceAnswer, FolderFault>
     ensures answer { IfOk result (λ answer. HoldsAsRead (known_at (D.holds folder.entry.disk.now) folder.entry.path.now (segments_of shape.now.evidence.partitions) shape.now.forms.items) shape.now.evidence asked.now.all
         (IsAnswerFor asked.now.subject asked.now.json asked.now.all asked.now.quiet asked.now.terms asked.now.report answer)) }
+    ensures dated { IfOk result (λ answer. IsDated (known_at (D.holds folder.entry.disk.now) folder.entry.path.now (segments_of shape.now.evidence.partitions) shape.now.forms.items) shape.now.evidence.partitions asked.now.report answer.report) }
     ensures opened { IfOk result (λ answer. AreOpened (outcomes_of (D.holds folder.entry.disk.now) folder.entry.path.now shape.now.evidence shape.now.forms.items) (pieces_of shape.now.evidence)) }
     ensures refused { IfErr result (IsOfPieces (outcomes_of (D.holds folder.entry.disk.now) folder.entry.path.now shape.now.evidence shape.now.forms.items) (pieces_of shape.now.evidence) asked.now.all) }
 {
@@ -100,7 +103,7 @@ fn answer_shape<D: Disk, T: Timed + Watch, R: Threads + Sync>(
 }
 
 /// Reads a folder, and answers. No more of it is held than its answer wants.
-#[tactic(auto, using(crate::proofs::FolderAnswers::folder_of))]
+#[tactic(auto, using(crate::proofs::FolderAnswers::folder_of, crate::proofs::Dated::dated_in))]
 fn answer_folder<D: Disk, T: Timed + Watch, R: Threads + Sync>(
     alloc: Global,
     threads: &R,
@@ -109,6 +112,7 @@ fn answer_folder<D: Disk, T: Timed + Watch, R: Threads + Sync>(
 ) -> Result<SourceAnswer, FolderFault>
     ensures answer { IfOk result (λ answer. HoldsOf (D.holds folder.entry.disk.now) folder.entry.path.now asked.now.all
         (IsAnswerFor asked.now.subject asked.now.json asked.now.all asked.now.quiet asked.now.terms asked.now.report answer)) }
+    ensures dated { IfOk result (λ answer. IsDatedIn (D.holds folder.entry.disk.now) folder.entry.path.now asked.now.report answer.report) }
     ensures first { IfErr result (IsFirstOfFolder (D.holds folder.entry.disk.now) folder.entry.path.now asked.now.all) }
 {
     let shape = read_shape(alloc, folder.disk, folder.path, asked.watch)?;
@@ -142,7 +146,7 @@ fn told<W: Write>(writer: &mut W, answer: SourceAnswer) -> Result<Said, WriteFau
 /// At `CannotWrite` a front of the lines was written. Before all is read and judged nothing is: `Refused` says which file or folder is no
 /// evidence or can't be read, or that memory ran out. It is the first refusal: that of the manifest, or of the first segment that is listed
 /// and isn't read, or, where each was opened, of the listing; where all faults are told also of a segment that is read again.
-#[tactic(auto, using(crate::proofs::FolderAnswers::told_of, crate::proofs::FolderAnswers::front_of, crate::proofs::FolderAnswers::known_of))]
+#[tactic(auto, using(crate::proofs::FolderAnswers::told_of, crate::proofs::FolderAnswers::front_of, crate::proofs::FolderAnswers::known_of, crate::proofs::Dated::dated_too))]
 pub fn check_folder_to<D: Disk, T: Timed + Watch, R: Threads + Sync, W: Write>(
     alloc: Global,
     threads: &R,
@@ -154,6 +158,7 @@ pub fn check_folder_to<D: Disk, T: Timed + Watch, R: Threads + Sync, W: Write>(
         (IsToldOf asked.now.subject asked.now.json asked.now.all asked.now.quiet asked.now.terms asked.now.report (W.contents writer.old) (W.contents writer.new) said)) }
     ensures known { (e : EvidenceParts) → AreKnown (D.holds folder.entry.disk.now) folder.entry.path.now → StandsAt (D.holds folder.entry.disk.now) folder.entry.path.now e
         → IfOk result (λ said. IsToldOf asked.now.subject asked.now.json asked.now.all asked.now.quiet asked.now.terms asked.now.report (W.contents writer.old) (W.contents writer.new) said e) }
+    ensures dated { IfOk result (λ said. IsDatedIn (D.holds folder.entry.disk.now) folder.entry.path.now asked.now.report said.report) }
     ensures unread { IfErr result (λ why. why ≢ CannotWrite → Keeps (W.contents writer.old) (W.contents writer.new)) }
     ensures first { IfErr result (IsFirst (D.holds folder.entry.disk.now) folder.entry.path.now asked.now.all) }
     ensures front { result ≡ Err CannotWrite → HoldsOf (D.holds folder.entry.disk.now) folder.entry.path.now asked.now.all

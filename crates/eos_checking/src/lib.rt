@@ -3,6 +3,7 @@
 #![tactic(auto)]
 
 mod check;
+mod dates;
 mod folder;
 mod folders;
 mod folds;

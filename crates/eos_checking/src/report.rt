@@ -5,6 +5,7 @@ ghost use Rattle.eos_commits.specs.Faults.{AreInOrder};
 ghost use Rattle.eos_report.specs.Pages.{IsPageText};
 ghost use Rattle.eos_report.specs.Reports.{IsReportText};
 ghost use Rattle.eos_checking.specs.Checking.{IsMadeIf};
+ghost use Rattle.eos_checking.specs.Dates.{IsTextWith};
 ghost use Rattle.eos_checking.specs.steps.Tellings.{IsReportBy};
 
 use crate::check::{Made, Wanted};
@@ -15,7 +16,7 @@ use eos_evidence::Spec;
 use eos_kept::Logs;
 use eos_notes::{Counted, all_notes, tallies_of};
 use eos_reading::EpochEntry;
-use eos_report::{Findings, Times, page_text, report_text};
+use eos_report::{Dates, Findings, Times, page_text, report_text};
 use std::alloc::{AllocError, Global};
 
 /// Who knows how long the stages of a check took. No contract speaks of it.
@@ -51,6 +52,8 @@ pub(crate) struct Told<'a> {
     pub epochs: &'a [Listed<EpochEntry>],
     pub verdict: &'a Verdict,
     pub faults: &'a [Fault],
+    /// When the records were written that these name.
+    pub dates: &'a Dates,
 }
 
 /// The report, where it is wanted.
@@ -60,7 +63,7 @@ fn report_if(
     found: Findings<'_>,
     times: Times,
 ) -> Result<Option<String>, AllocError>
-    ensures { IfOk result (λ made. IsMadeIf wanted.entry.report (IsReportText wanted.entry.about found.entry.verdict.now found.entry.faults.now found.entry.notes.now found.entry.tallies.now) (option_map string_bytes made)) }
+    ensures { IfOk result (λ made. IsMadeIf wanted.entry.report (IsReportText wanted.entry.about found.entry.verdict.now found.entry.faults.now found.entry.dates.now found.entry.notes.now found.entry.tallies.now) (option_map string_bytes made)) }
 {
     if !wanted.report {
         return Ok(None);
@@ -91,13 +94,15 @@ pub(crate) fn made_of<T: Timed>(
     wanted: Wanted<'_>,
     timed: &T,
 ) -> Result<Made, AllocError>
-    ensures { AreInOrder told.entry.logs.now.parts.items → IfOk result (IsReportBy told.entry wanted.entry) }
+    ensures made { AreInOrder told.entry.logs.now.parts.items → IfOk result (IsReportBy told.entry wanted.entry) }
+    ensures dated { IfOk result (λ made. IsMadeIf wanted.entry.report (IsTextWith wanted.entry.about told.entry.faults.now told.entry.dates.now) (option_map string_bytes made.report)) }
 {
     let notes = all_notes(alloc, told.spec, told.logs, told.epochs)?;
     let tallies = tallies_of(alloc, told.spec, told.logs, told.counted)?;
     let findings = Findings {
         verdict: told.verdict,
         faults: told.faults,
+        dates: told.dates,
         notes: notes.as_slice(),
         tallies: &tallies,
     };

@@ -11,10 +11,12 @@ ghost use Rattle.eos_source.specs.Said.{known_by};
 ghost use Rattle.eos_source.specs.Refusals.{AreOpened, IsRefusal};
 ghost use Rattle.eos_source.specs.FirstRefusals.{pieces_of};
 ghost use Rattle.eos_source_check.specs.Refusals.{IsEarned, IsUntold};
+ghost use Rattle.eos_checking.specs.Dates.{IsDated};
 ghost use Rattle.eos_checking.specs.Sources.{IsSourceAnswer, IsListAnswer};
-ghost use Rattle.eos_checking.specs.steps.Tellings.{AreListed, TellsOf, ReportsOf, IsNotedBy, ExitsBy, first_alone};
+ghost use Rattle.eos_checking.specs.steps.Tellings.{AreListed, TellsOf, ReportsOf, HasDates, IsNotedBy, ExitsBy, first_alone};
 
 use crate::check::{Asked, Faults, Made, lines_told};
+use crate::dates::dates_if;
 use crate::report::{Timed, Told, made_of};
 use crate::terms::{exit_status, unmet_text};
 use eos_check::{Fault, Verdict};
@@ -61,14 +63,16 @@ fn faults_of(verdict: &Verdict) -> &[Fault]
 }
 
 /// What is wanted beside the answer, of what was judged, with these faults.
+#[tactic(auto, using(crate::proofs::Dated::none_wanted))]
 fn report_on<T: Timed>(
     alloc: Global,
     spec: &Spec,
     judged: &Judged,
-    faults: &[Fault],
+    faults: Faults<'_>,
     asked: &Asked<'_, T>,
 ) -> Result<Option<Made>, AllocError>
-    ensures { AreInOrder judged.now.logs.parts.items → IfOk result (ReportsOf spec.now judged.now faults.now asked.now.report) }
+    ensures made { AreInOrder judged.now.logs.parts.items → IfOk result (ReportsOf spec.now judged.now faults.entry.told.now asked.now.report) }
+    ensures dated { IfOk result (HasDates asked.now.report faults.entry.told.now faults.entry.dates.now) }
 {
     match asked.report {
         None => Ok(None),
@@ -79,7 +83,8 @@ fn report_on<T: Timed>(
                 counted: judged.counted.as_slice(),
                 epochs: judged.epochs.as_slice(),
                 verdict: &judged.verdict,
-                faults,
+                faults: faults.told,
+                dates: faults.dates,
             };
             let made = made_of(alloc, told, wanted, asked.watch)?;
             Ok(Some(made))
@@ -150,13 +155,14 @@ fn told<T: Timed>(
     faults: Faults<'_>,
     asked: &Asked<'_, T>,
 ) -> Result<SourceAnswer, AllocError>
-    ensures { IfOk result (TellsOf spec.now judged.now faults.entry.told.now asked.now.subject asked.now.json faults.entry.all asked.now.quiet asked.now.terms asked.now.report) }
+    ensures told { IfOk result (TellsOf spec.now judged.now faults.entry.told.now asked.now.subject asked.now.json faults.entry.all asked.now.quiet asked.now.terms asked.now.report) }
+    ensures dated { IfOk result (λ answer. HasDates asked.now.report faults.entry.told.now faults.entry.dates.now answer.report) }
 {
     let lines = lines_told(alloc, &judged.verdict, faults, asked)?;
     let notes = note_lines_of(alloc, spec, judged, asked.quiet)?;
     let status = status_of(alloc, spec, judged, asked.terms.demands)?;
     let unmet = unmet_text(alloc, asked.terms, &judged.verdict)?;
-    let report = report_on(alloc, spec, judged, faults.told, asked)?;
+    let report = report_on(alloc, spec, judged, faults, asked)?;
     Ok(SourceAnswer {
         lines,
         status,
@@ -169,7 +175,7 @@ fn told<T: Timed>(
 /// The answer to an evidence of this shape, whose pieces are read from the source, each once and by at most so many threads. No more
 /// of them is held than what verdict, notes and report are worked out of. There is what each piece said, as far as it is known just
 /// that, and all of the answer is true of each evidence of this shape whose segments are such; of a no it tells the first fault
-/// alone.
+/// alone. The times of a report's records are those of the segments as they are read again, where they can be.
 ///
 /// # Errors
 /// The fault of the first piece, in order, that isn't there, or is a fold that doesn't fit; or want of memory.
@@ -180,13 +186,17 @@ pub fn answer_source<S: Source, T: Timed, R: Threads + Sync>(
     asked: &Asked<'_, T>,
 ) -> Result<SourceAnswer, S::Fault>
     ensures answer { IfOk result (IsSourceAnswer (known_by (S.said pieces.entry.source.now) (S.is_log pieces.entry.source.now)) pieces.entry.shape.now asked.now.subject asked.now.json asked.now.quiet asked.now.terms asked.now.report) }
+    ensures dated { IfOk result (λ answer. IsDated (known_by (S.said pieces.entry.source.now) (S.is_log pieces.entry.source.now)) pieces.entry.shape.now.partitions asked.now.report answer.report) }
     ensures opened { IfOk result (λ answer. AreOpened (S.outcomes pieces.entry.source.now) (pieces_of pieces.entry.shape.now)) }
     ensures refused { IfErr result (IsRefusal (S.outcomes pieces.entry.source.now) (S.Fault.from_gives alloc_error) (pieces_of pieces.entry.shape.now)) }
 {
     let judged = judge_source(alloc, rt, pieces.source, pieces.shape, asked.workers)?;
+    let first = faults_of(&judged.verdict);
+    let dates = dates_if(alloc, &pieces, first, asked.report)?;
     let faults = Faults {
-        told: faults_of(&judged.verdict),
+        told: first,
         all: false,
+        dates: &dates,
     };
     let answer = told(alloc, pieces.shape.spec(), &judged, faults, asked)?;
     Ok(answer)
@@ -216,12 +226,16 @@ fn all_told<S: Source, T: Timed>(
 ) -> Result<SourceAnswer, Unlisted<S::Fault>>
     ensures answer { IfOk result (λ answer. (faults : List Fault) × AreListed (known_by (S.said pieces.now.source.now) (S.is_log pieces.now.source.now)) pieces.now.shape.now judged.now judged.now.verdict faults
         × TellsOf pieces.now.shape.now.spec judged.now faults asked.now.subject asked.now.json true asked.now.quiet asked.now.terms asked.now.report answer) }
+    ensures dated { IfOk result (λ answer. IsDated (known_by (S.said pieces.now.source.now) (S.is_log pieces.now.source.now)) pieces.now.shape.now.partitions asked.now.report answer.report) }
     ensures earned { IfErr result (IsEarned (known_by (S.said pieces.now.source.now) (S.is_log pieces.now.source.now)) (S.outcomes pieces.now.source.now) pieces.now.shape.now.partitions judged.now.logs.faults.items) }
 {
     let list = listed_of(alloc, pieces, judged)?;
+    let found = list.as_slice();
+    let dates = dates_if(alloc, pieces, found, asked.report)?;
     let faults = Faults {
-        told: list.as_slice(),
+        told: found,
         all: true,
+        dates: &dates,
     };
     let answer = told(alloc, pieces.shape.spec(), judged, faults, asked)?;
     Ok(answer)
@@ -240,6 +254,7 @@ pub fn answer_all<S: Source, T: Timed, R: Threads + Sync>(
     asked: &Asked<'_, T>,
 ) -> Result<SourceAnswer, Unlisted<S::Fault>>
     ensures answer { IfOk result (IsListAnswer (known_by (S.said pieces.entry.source.now) (S.is_log pieces.entry.source.now)) pieces.entry.shape.now asked.now.subject asked.now.json asked.now.quiet asked.now.terms asked.now.report) }
+    ensures dated { IfOk result (λ answer. IsDated (known_by (S.said pieces.entry.source.now) (S.is_log pieces.entry.source.now)) pieces.entry.shape.now.partitions asked.now.report answer.report) }
     ensures opened { IfOk result (λ answer. AreOpened (S.outcomes pieces.entry.source.now) (pieces_of pieces.entry.shape.now)) }
     ensures refused { IfErr result (IsUntold (S.outcomes pieces.entry.source.now) (S.Fault.from_gives alloc_error) (pieces_of pieces.entry.shape.now) true) }
 {

@@ -1,9 +1,9 @@
 -- A report nests no deeper than a JSON text may, so that it reads back.
-use Rattle.std.proofs.Common.{◌≤◌, ℕ, List, [], ◌∷◌, Bool, true, false, Option, None, Some, Ordering, Less, Equal, Greater, cond, arith, nat_cmp, ◌+◌, option_map, unwrap_or, codes, subst, sym}
+use Rattle.std.proofs.Common.{◌≤◌, ℕ, ℤ, List, [], ◌∷◌, drop, Bool, true, false, Option, None, Some, Ordering, Less, Equal, Greater, cond, arith, nat_cmp, ◌+◌, option_map, unwrap_or, codes, subst, sym}
 use Rattle.std.specs.Cmp.Lexicographic.{slice_cmp}
 use Rattle.std.specs.Ordering.{match_ordering}
 use Rattle.std.specs.Str.{is_utf8}
-use Rattle.serde_json.specs.Data.{Data, Num, Items, no_items, item, Members, no_members, member, put, depth, items_depth, members_depth, string, object, array, number, null}
+use Rattle.serde_json.specs.Data.{Data, Num, Items, Members, no_members, member, put, depth, items_depth, members_depth, string, object, array, number, boolean, null}
 use Rattle.serde_json.specs.Read.{max_depth}
 use Rattle.eos_base.specs.declared.partition_name.PartitionName.{PartitionName}
 use Rattle.eos_touch.specs.declared.fault.PartitionFaultKind.{PartitionFaultKind}
@@ -27,7 +27,10 @@ use Rattle.eos_report.specs.declared.about.About.{About}
 use Rattle.eos_report.specs.declared.about.Times.{Times}
 use Rattle.eos_verdict.specs.VerdictNames.{phase_of, name_of}
 use Rattle.eos_report.specs.Values.{count, text_value, with_partition, with_place, place_value}
-use Rattle.eos_report.specs.FaultValues.{with_details, with_partition_fault, with_id, with_refusal, with_log_fault, with_found, with_match_fault, with_visible_details, with_visible_fault, with_claim, with_group, with_output_fault, with_where, code_of, fault_value}
+use Rattle.eos_report.specs.FaultValues.{with_details, with_partition_fault, with_id, with_refusal, with_log_fault, with_found, with_match_fault, with_visible_details, with_visible_fault, with_claim, with_group, with_output_fault, with_where, code_of, with_fault}
+use Rattle.eos_report.specs.DatedValues.{with_timestamp, with_timestamps, first_timestamps, dated_value, dated_items}
+use Rattle.eos_report.specs.declared.dates.Dates.{Dates}
+use Rattle.eos_report.specs.declared.dates.Timestamps.{Timestamps}
 use Rattle.eos_report.specs.NoteValues.{with_note, note_value}
 use Rattle.eos_notes.specs.declared.tally.TopicRoles.{TopicRoles}
 use Rattle.eos_notes.specs.declared.tally.PartitionTally.{PartitionTally}
@@ -35,7 +38,7 @@ use Rattle.eos_notes.specs.declared.tally.SourceTally.{SourceTally}
 use Rattle.eos_notes.specs.declared.tally.GroupTally.{GroupTally}
 use Rattle.eos_notes.specs.declared.tally.Tallies.{Tallies}
 use Rattle.eos_report.specs.TallyValues.{with_roles, roles_value, visible_value, with_sizes, with_tally, partition_value, partition_items, with_source, source_value, source_items, with_group_tally, group_value, group_items, groups_value, with_tallies}
-use Rattle.eos_report.specs.Reports.{note_items, fault_items, counts_value, with_verdict, program_value, with_about, report_value, AreSeconds, AreTimes}
+use Rattle.eos_report.specs.Reports.{note_items, counts_value, with_verdict, program_value, with_about, report_value, AreSeconds, AreTimes}
 
 -- ---- members that are put in
 
@@ -145,12 +148,29 @@ head f ms = put (codes "phase") (count (phase_of f)) (put (codes "name") (string
 head_depth : (f : Fault) (ms : Members) → members_depth ms ≤ 2 → members_depth (head f ms) ≤ 2
 head_depth f ms q = flat _ _ _ (omega arith) (flat _ _ _ (omega arith) (flat _ _ ms (omega arith) q))
 
-fault_depth : (f : Fault) → depth (fault_value f) ≤ 3
-unfolding fault_value
-fault_depth f = object_depth 2 (with_where f (head f no_members)) (where_depth f (head f no_members) (head_depth f no_members (omega arith)))
+with_fault_depth : (f : Fault) → members_depth (with_fault f no_members) ≤ 2
+unfolding with_fault
+with_fault_depth f = where_depth f (head f no_members) (head_depth f no_members (omega arith))
 
-pub shallow_fault : (f : Fault) → depth (fault_value f) ≤ max_depth
-shallow_fault f = omega (arith, fault_depth f)
+timestamp_depth : (name : List ℕ) (o : Option ℤ) (ms : Members) → members_depth ms ≤ 2 → members_depth (with_timestamp name o ms) ≤ 2
+unfolding with_timestamp
+timestamp_depth name None ms q = q
+timestamp_depth name (Some time) ms q = flat _ _ ms (omega arith) q
+
+timestamps_depth : (f : Fault) (t : Timestamps) (ms : Members) → members_depth ms ≤ 2 → members_depth (with_timestamps f t ms) ≤ 2
+unfolding with_timestamps
+timestamps_depth (InPartition f) t ms q = timestamp_depth _ t.own ms q
+timestamps_depth (Log f) t ms q = timestamp_depth _ t.own ms q
+timestamps_depth (Match f) t ms q = q
+timestamps_depth (Lineage (lineage.Record f)) t ms q = timestamp_depth _ t.own ms q
+timestamps_depth (Lineage (lineage.Output group f)) t ms q = timestamp_depth _ t.claim _ (timestamp_depth _ t.own ms q)
+
+dated_depth : (f : Fault) (t : Timestamps) → depth (dated_value f t) ≤ 3
+unfolding dated_value
+dated_depth f t = object_depth 2 (with_timestamps f t (with_fault f no_members)) (timestamps_depth f t (with_fault f no_members) (with_fault_depth f))
+
+pub shallow_fault : (f : Fault) (t : Timestamps) → depth (dated_value f t) ≤ max_depth
+shallow_fault f t = omega (arith, dated_depth f t)
 
 -- ---- notes
 
@@ -261,17 +281,17 @@ counts_depth : (c : Counts) → depth (counts_value c) ≤ 3
 unfolding counts_value
 counts_depth c = object_depth 2 (counted c no_members) (counted_depth c no_members (omega arith))
 
-faults_depth : (fs : List Fault) → items_depth (fault_items fs) ≤ 3
-faults_depth [] = omega arith
-faults_depth (f ∷ fs) = omega (arith, fault_depth f, faults_depth fs)
+faults_depth : (fs : List Fault) (ts : List Timestamps) → items_depth (dated_items fs ts) ≤ 3
+faults_depth [] ts = omega arith
+faults_depth (f ∷ fs) ts = omega (arith, dated_depth f (first_timestamps ts), faults_depth fs (drop 1 ts))
 
-verdict_depth : (v : Verdict) (fs : List Fault) (ms : Members) → members_depth ms ≤ 5 → members_depth (with_verdict v fs ms) ≤ 5
+verdict_depth : (v : Verdict) (fs : List Fault) (ts : List Timestamps) (ms : Members) → members_depth ms ≤ 5 → members_depth (with_verdict v fs ts ms) ≤ 5
 unfolding with_verdict
-verdict_depth (Yes counts) fs ms q =
+verdict_depth (Yes counts) fs ts ms q =
     put_depth 5 (codes "counts") (counts_value counts) (put (codes "answer") (string (codes "yes")) ms) (within (counts_value counts) (counts_depth counts))
     (put_depth 5 (codes "answer") (string (codes "yes")) ms (omega arith) q)
-verdict_depth (No fault) fs ms q =
-    put_depth 5 (codes "faults") (array (fault_items fs)) (put (codes "answer") (string (codes "no")) ms) (listed (fault_items fs) (faults_depth fs))
+verdict_depth (No fault) fs ts ms q =
+    put_depth 5 (codes "faults") (array (dated_items fs ts)) (put (codes "answer") (string (codes "no")) ms) (listed (dated_items fs ts) (faults_depth fs ts))
     (put_depth 5 (codes "answer") (string (codes "no")) ms (omega arith) q)
 
 abbrev named : About → Members → Members
@@ -300,24 +320,27 @@ allowed : (d : Data) → depth d ≤ 6 → depth d ≤ max_depth
 allowed d p = omega (arith, p)
 
 -- what the report has before the notes, and all its members
-abbrev judged : About → Verdict → List Fault → Members
-judged about v fs = with_verdict v fs (with_about about no_members)
+abbrev judged : About → Verdict → List Fault → List Timestamps → Members
+judged about v fs ts = with_verdict v fs ts (with_about about no_members)
 
-abbrev noted : About → Verdict → List Fault → List Note → Members
-noted about v fs ns = put (codes "notes") (array (note_items ns)) (judged about v fs)
+abbrev noted : About → Verdict → List Fault → List Timestamps → List Note → Members
+noted about v fs ts ns = put (codes "notes") (array (note_items ns)) (judged about v fs ts)
 
-noted_depth : (about : About) (v : Verdict) (fs : List Fault) (ns : List Note) → members_depth (noted about v fs ns) ≤ 5
-noted_depth about v fs ns =
-    put_depth 5 (codes "notes") (array (note_items ns)) (judged about v fs) (listed (note_items ns) (notes_depth ns))
-    (verdict_depth v fs (with_about about no_members) (about_depth about no_members (omega arith)))
+noted_depth : (about : About) (v : Verdict) (fs : List Fault) (ts : List Timestamps) (ns : List Note) → members_depth (noted about v fs ts ns) ≤ 5
+noted_depth about v fs ts ns =
+    put_depth 5 (codes "notes") (array (note_items ns)) (judged about v fs ts) (listed (note_items ns) (notes_depth ns))
+    (verdict_depth v fs ts (with_about about no_members) (about_depth about no_members (omega arith)))
 
-report_depth : (about : About) (v : Verdict) (fs : List Fault) (ns : List Note) (t : Tallies) (seconds : Data) → depth seconds ≤ 1
-    → depth (report_value about v fs ns t seconds) ≤ max_depth
+report_depth : (about : About) (v : Verdict) (fs : List Fault) (ds : Dates) (ns : List Note) (t : Tallies) (seconds : Data) → depth seconds ≤ 1
+    → depth (report_value about v fs ds ns t seconds) ≤ max_depth
 unfolding report_value
-report_depth about v fs ns t seconds p =
-    let tabled : Members = with_tallies t (noted about v fs ns) in
-    let whole : Members = put (codes "seconds") seconds tabled in
-    allowed (object whole) (object_depth 5 whole (put_depth 5 (codes "seconds") seconds tabled (small seconds p) (tallies_depth t (noted about v fs ns) (noted_depth about v fs ns))))
+report_depth about v fs ds ns t seconds p =
+    let told : Members = noted about v fs ds.of_faults ns in
+    let tabled : Members = with_tallies t told in
+    let timed : Members = put (codes "seconds") seconds tabled in
+    let whole : Members = put (codes "timestamps_read") (boolean ds.read) timed in
+    let deep : members_depth timed ≤ 5 = put_depth 5 (codes "seconds") seconds tabled (small seconds p) (tallies_depth t told (noted_depth about v fs ds.of_faults ns)) in
+    allowed (object whole) (object_depth 5 whole (level (codes "timestamps_read") (boolean ds.read) timed (omega arith) deep))
 
 -- ---- seconds
 
@@ -339,6 +362,6 @@ times_depth times value a =
     (put_depth 0 (codes "folded") a.folded read (seconds_depth _ _ a.folds)
     (put_depth 0 (codes "read") a.read no_members (seconds_depth _ _ a.reads) (omega arith)))))
 
-pub timed_depth : (about : About) (v : Verdict) (fs : List Fault) (ns : List Note) (t : Tallies) (times : Times) (seconds : Data) → AreTimes times seconds
-    → depth (report_value about v fs ns t seconds) ≤ max_depth
-timed_depth about v fs ns t times seconds a = report_depth about v fs ns t seconds (times_depth times seconds a)
+pub timed_depth : (about : About) (v : Verdict) (fs : List Fault) (ds : Dates) (ns : List Note) (t : Tallies) (times : Times) (seconds : Data) → AreTimes times seconds
+    → depth (report_value about v fs ds ns t seconds) ≤ max_depth
+timed_depth about v fs ds ns t times seconds a = report_depth about v fs ds ns t seconds (times_depth times seconds a)

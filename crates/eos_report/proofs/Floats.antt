@@ -27,7 +27,9 @@ use Rattle.eos_verdict.specs.declared.verdict.Verdict.TheVariants.{Yes, No}
 use Rattle.eos_verdict.specs.VerdictNames.{phase_of, name_of}
 use Rattle.eos_verdict.specs.FaultTexts.{fault_text}
 use Rattle.eos_report.specs.Values.{count, integer, text_value, with_partition, with_place, place_value}
-use Rattle.eos_report.specs.FaultValues.{with_details, with_partition_fault, with_id, with_refusal, with_log_fault, with_found, with_match_fault, with_visible_details, with_visible_fault, with_claim, with_group, with_output_fault, with_where, code_of, fault_value}
+use Rattle.eos_report.specs.FaultValues.{with_details, with_partition_fault, with_id, with_refusal, with_log_fault, with_found, with_match_fault, with_visible_details, with_visible_fault, with_claim, with_group, with_output_fault, with_where, code_of, with_fault, fault_value}
+use Rattle.eos_report.specs.DatedValues.{with_timestamp, with_timestamps, dated_value}
+use Rattle.eos_report.specs.declared.dates.Timestamps.{Timestamps}
 use Rattle.eos_report.specs.Lines.{line_value}
 
 record Plain (ms : Members) : Type 0 where
@@ -184,15 +186,40 @@ head_plain f =
     let two : Plain named = put_plain (codes "name") (string (name_of f)) code (text_bare (name_of f)) one in
     put_plain (codes "phase") (count (phase_of f)) named (count_bare (phase_of f)) two
 
+fault_plain : (f : Fault) → Plain (with_fault f no_members)
+unfolding with_fault
+fault_plain f =
+    let head = put (codes "phase") (count (phase_of f)) (put (codes "name") (string (name_of f)) (put (codes "code") (string (code_of f)) no_members)) in
+    where_plain f head (head_plain f)
+
 fault_bare : (f : Fault) → Bare (fault_value f)
 unfolding fault_value
-fault_bare f =
-    let head = put (codes "phase") (count (phase_of f)) (put (codes "name") (string (name_of f)) (put (codes "code") (string (code_of f)) no_members)) in
-    of_members (with_where f head) (where_plain f head (head_plain f))
+fault_bare f = of_members (with_fault f no_members) (fault_plain f)
+
+-- ---- with the times of records
+
+timestamp_plain : (name : List ℕ) (o : Option ℤ) (ms : Members) → Plain ms → Plain (with_timestamp name o ms)
+unfolding with_timestamp
+timestamp_plain name None ms q = q
+timestamp_plain name (Some time) ms q = put_plain name (integer time) ms (integer_bare time) q
+
+timestamps_plain : (f : Fault) (t : Timestamps) (ms : Members) → Plain ms → Plain (with_timestamps f t ms)
+unfolding with_timestamps
+timestamps_plain (InPartition f) t ms q = timestamp_plain (codes "timestamp") t.own ms q
+timestamps_plain (Log f) t ms q = timestamp_plain (codes "timestamp") t.own ms q
+timestamps_plain (Match f) t ms q = q
+timestamps_plain (Lineage (lineage.Record f)) t ms q = timestamp_plain (codes "timestamp") t.own ms q
+timestamps_plain (Lineage (lineage.Output group f)) t ms q =
+    let source = with_timestamp (codes "source_timestamp") t.own ms in
+    timestamp_plain (codes "at_timestamp") t.claim source (timestamp_plain (codes "source_timestamp") t.own ms q)
+
+dated_bare : (f : Fault) (t : Timestamps) → Bare (dated_value f t)
+unfolding dated_value
+dated_bare f t = of_members (with_timestamps f t (with_fault f no_members)) (timestamps_plain f t (with_fault f no_members) (fault_plain f))
 
 -- the text of its object is known word for word
-pub whole_fault : (f : Fault) → has_float (fault_value f) ≡ false
-whole_fault f = (fault_bare f).none
+pub whole_fault : (f : Fault) (t : Timestamps) → has_float (dated_value f t) ≡ false
+whole_fault f t = (dated_bare f t).none
 
 -- ---- lines
 

@@ -100,6 +100,9 @@ with_where (Lineage (lineage.Output group f)) ms = with_output_fault group f ms
 unfoldable pub code_of : Fault → List ℕ
 code_of f = decimal (phase_of f) ++ (codes "." ++ decimal (number_of f))
 
+-- the members with those of a fault
+unfoldable pub with_fault : Fault → Members → Members
+with_fault f ms = with_where f (put (codes "phase") (count (phase_of f)) (put (codes "name") (string (name_of f)) (put (codes "code") (string (code_of f)) ms)))
+
 unfoldable pub fault_value : Fault → Data
-fault_value f =
-    object (with_where f (put (codes "phase") (count (phase_of f)) (put (codes "name") (string (name_of f)) (put (codes "code") (string (code_of f)) no_members))))
+fault_value f = object (with_fault f no_members)

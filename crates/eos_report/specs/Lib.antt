@@ -3,6 +3,7 @@ pub mod VerdictValues
 pub mod FaultLists
 pub mod Values
 pub mod FaultValues
+pub mod DatedValues
 pub mod NoteValues
 pub mod TallyValues
 pub mod Reports

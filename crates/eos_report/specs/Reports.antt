@@ -3,7 +3,7 @@
 use Rattle.std.specs.Prelude.{◌≡◌, List, ◌++◌, ◌*◌, ℕ, codes, map, Some, option_map, unwrap_or}
 use Rattle.std.specs.Duration.{as_nanos, as_secs_f64}
 use Rattle.std.specs.declared.time.Duration.{Duration}
-use Rattle.serde_json.specs.Data.{Data, Members, no_members, Items, object, array, string, number, null, put}
+use Rattle.serde_json.specs.Data.{Data, Members, no_members, Items, object, array, string, number, boolean, null, put}
 use Rattle.serde_json.specs.Find.{of_float}
 use Rattle.serde_json.specs.Read.{read}
 use Rattle.serde_json.specs.View.{items_of}
@@ -15,7 +15,9 @@ use Rattle.eos_notes.specs.declared.note.Note.{Note}
 use Rattle.eos_report.specs.declared.about.About.{About}
 use Rattle.eos_report.specs.declared.about.Times.{Times}
 use Rattle.eos_report.specs.Values.{count}
-use Rattle.eos_report.specs.FaultValues.{fault_value}
+use Rattle.eos_report.specs.declared.dates.Dates.{Dates}
+use Rattle.eos_report.specs.declared.dates.Timestamps.{Timestamps}
+use Rattle.eos_report.specs.DatedValues.{dated_items}
 use Rattle.eos_notes.specs.declared.tally.Tallies.{Tallies}
 use Rattle.eos_report.specs.NoteValues.{note_value}
 use Rattle.eos_report.specs.TallyValues.{with_tallies}
@@ -24,13 +26,10 @@ unfoldable pub counts_value : Counts → Data
 counts_value c =
     object (put (codes "transactions") (count c.transactions) (put (codes "outputs") (count c.outputs) (put (codes "inputs") (count c.inputs) no_members)))
 
-abbrev pub fault_items : List Fault → Items
-fault_items faults = items_of (map fault_value faults)
-
--- the answer, and the counts of a yes or the faults that are told of a no
-unfoldable pub with_verdict : Verdict → List Fault → Members → Members
-with_verdict (Yes counts) faults ms = put (codes "counts") (counts_value counts) (put (codes "answer") (string (codes "yes")) ms)
-with_verdict (No fault) faults ms = put (codes "faults") (array (fault_items faults)) (put (codes "answer") (string (codes "no")) ms)
+-- the answer, and the counts of a yes or the faults that are told of a no, each with the times of the records that it names
+unfoldable pub with_verdict : Verdict → List Fault → List Timestamps → Members → Members
+with_verdict (Yes counts) faults times ms = put (codes "counts") (counts_value counts) (put (codes "answer") (string (codes "yes")) ms)
+with_verdict (No fault) faults times ms = put (codes "faults") (array (dated_items faults times)) (put (codes "answer") (string (codes "no")) ms)
 
 abbrev pub note_items : List Note → Items
 note_items notes = items_of (map note_value notes)
@@ -60,22 +59,23 @@ pub record AreTimes (times : Times) (value : Data) : Type 0 where
   pub judges : AreSeconds times.judged judged
   pub is : value ≡ object (put (codes "judged") judged (put (codes "folded") folded (put (codes "read") read no_members)))
 
--- all of it
-unfoldable pub report_value : About → Verdict → List Fault → List Note → Tallies → Data → Data
-report_value about verdict faults notes tallies seconds =
-    object (put (codes "seconds") seconds (with_tallies tallies (put (codes "notes") (array (note_items notes)) (with_verdict verdict faults (with_about about no_members)))))
+-- all of it, also whether the times of records could be read
+unfoldable pub report_value : About → Verdict → List Fault → Dates → List Note → Tallies → Data → Data
+report_value about verdict faults dates notes tallies seconds =
+    object (put (codes "timestamps_read") (boolean dates.read) (put (codes "seconds") seconds (with_tallies tallies
+    (put (codes "notes") (array (note_items notes)) (with_verdict verdict faults dates.of_faults (with_about about no_members))))))
 
 -- a line that reads as the report
-pub record IsReportText (about : About) (verdict : Verdict) (faults : List Fault) (notes : List Note) (tallies : Tallies) (text : List ℕ) : Type 0 where
+pub record IsReportText (about : About) (verdict : Verdict) (faults : List Fault) (dates : Dates) (notes : List Note) (tallies : Tallies) (text : List ℕ) : Type 0 where
   pub seconds : Data
   pub line : List ℕ
   pub ends : text ≡ line ++ codes "\n"
-  pub reads : read line ≡ Some (report_value about verdict faults notes tallies seconds)
+  pub reads : read line ≡ Some (report_value about verdict faults dates notes tallies seconds)
 
 -- a line that reads as the report, and in it the seconds are those of these times
-pub record IsTimedReportText (about : About) (verdict : Verdict) (faults : List Fault) (notes : List Note) (tallies : Tallies) (times : Times) (text : List ℕ) : Type 0 where
+pub record IsTimedReportText (about : About) (verdict : Verdict) (faults : List Fault) (dates : Dates) (notes : List Note) (tallies : Tallies) (times : Times) (text : List ℕ) : Type 0 where
   pub seconds : Data
   pub are : AreTimes times seconds
   pub line : List ℕ
   pub ends : text ≡ line ++ codes "\n"
-  pub reads : read line ≡ Some (report_value about verdict faults notes tallies seconds)
+  pub reads : read line ≡ Some (report_value about verdict faults dates notes tallies seconds)

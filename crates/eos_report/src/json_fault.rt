@@ -3,8 +3,10 @@
 ghost use Rattle.std.specs.Prelude.{◌≡◌, IfOk, OnOk, option_map, string_bytes};
 ghost use Rattle.serde_json.specs.View.{view};
 ghost use Rattle.eos_report.specs.steps.Held.{held};
-ghost use Rattle.eos_report.specs.FaultValues.{with_details, with_partition_fault, with_id, with_refusal, with_log_fault, with_found, with_match_fault, with_visible_details, with_visible_fault, with_claim, with_group, with_output_fault, with_where, code_of, fault_value};
+ghost use Rattle.eos_report.specs.FaultValues.{with_details, with_partition_fault, with_id, with_refusal, with_log_fault, with_found, with_match_fault, with_visible_details, with_visible_fault, with_claim, with_group, with_output_fault, with_where, code_of, with_fault, fault_value};
+ghost use Rattle.eos_report.specs.DatedValues.{dated_value};
 
+use crate::dates::{Timestamps, put_timestamps};
 use crate::object::Object;
 use bytes::Bytes;
 use eos_base::PartitionName;
@@ -22,13 +24,36 @@ use std::alloc::{AllocError, Global};
 pub(crate) fn value_of_fault(alloc: Global, fault: &Fault) -> Result<Value, AllocError>
     ensures { IfOk result (λ value. view value ≡ fault_value fault.now) }
 {
-    let code = code_of(alloc, fault)?;
     let mut made = Object::new(alloc);
-    made.put("code", Value::String(code))?;
-    made.put_str("name", fault.name())?;
-    made.put_count("phase", u64::from(fault.phase()))?;
-    put_where(&mut made, fault)?;
+    put_fault(alloc, &mut made, fault)?;
     Ok(made.into_value())
+}
+
+/// A fault as a report has it, with the times of the records that it names.
+#[tactic(auto, unfolding(crate::specs::DatedValues::dated_value))]
+pub(crate) fn value_of_dated(
+    alloc: Global,
+    fault: &Fault,
+    times: Timestamps,
+) -> Result<Value, AllocError>
+    ensures { IfOk result (λ value. view value ≡ dated_value fault.now times) }
+{
+    let mut made = Object::new(alloc);
+    put_fault(alloc, &mut made, fault)?;
+    put_timestamps(&mut made, fault, times)?;
+    Ok(made.into_value())
+}
+
+#[tactic(auto, unfolding(crate::specs::FaultValues::with_fault))]
+fn put_fault(alloc: Global, out: &mut Object, fault: &Fault) -> Result<(), AllocError>
+    ensures { OnOk result (held out.new ≡ with_fault fault.now (held out.old)) }
+{
+    let code = code_of(alloc, fault)?;
+    out.put("code", Value::String(code))?;
+    out.put_str("name", fault.name())?;
+    out.put_count("phase", u64::from(fault.phase()))?;
+    put_where(out, fault)?;
+    Ok(())
 }
 
 #[tactic(auto, unfolding(crate::specs::FaultValues::code_of))]

@@ -3,12 +3,12 @@
 ghost use Rattle.std.specs.Prelude.{◌≡◌, ◌++◌, false, IfOk, OnOk, string_bytes};
 ghost use Rattle.std.specs.Str.{IsCharBoundary};
 ghost use Rattle.serde_json.specs.Written.{compact_text, comma_if, items_text};
-ghost use Rattle.eos_report.specs.FaultValues.{fault_value};
-ghost use Rattle.eos_report.specs.Reports.{fault_items};
+ghost use Rattle.eos_report.specs.DatedValues.{dated_value, dated_items};
 ghost use Rattle.eos_report.specs.steps.Texts.{array_end, IsRead, AreRead};
 ghost use Rattle.eos_report.specs.steps.Frames.{with_faults, Opens, IsFilled};
 
-use crate::json_fault::value_of_fault;
+use crate::dates::{Timestamps, first_of, rest_of};
+use crate::json_fault::value_of_dated;
 use eos_verdict::{Fault, Verdict};
 use std::alloc::{AllocError, Global};
 
@@ -21,58 +21,77 @@ pub(crate) fn filled(
     frame: String,
     verdict: &Verdict,
     faults: &[Fault],
+    times: &[Timestamps],
 ) -> Result<String, AllocError>
     requires { Opens verdict.now (string_bytes frame) }
-    ensures { IfOk result (λ text. IsFilled verdict.now faults.now (string_bytes frame) (string_bytes text)) }
+    ensures { IfOk result (λ text. IsFilled verdict.now faults.now times.now (string_bytes frame) (string_bytes text)) }
 {
     match verdict {
         Verdict::Yes(_) => Ok(frame),
-        Verdict::No(_) => with_faults(alloc, frame.as_str(), faults),
+        Verdict::No(_) => with_faults(alloc, frame.as_str(), faults, times),
     }
 }
 
-fn with_faults(alloc: Global, frame: &str, faults: &[Fault]) -> Result<String, AllocError>
+fn with_faults(
+    alloc: Global,
+    frame: &str,
+    faults: &[Fault],
+    times: &[Timestamps],
+) -> Result<String, AllocError>
     requires { IsCharBoundary frame.now array_end }
-    ensures text { IfOk result (λ text. string_bytes text ≡ with_faults faults.now frame.now) }
-    ensures read { IfOk result (λ _. AreRead (fault_items faults.now)) }
+    ensures text { IfOk result (λ text. string_bytes text ≡ with_faults faults.now times.now frame.now) }
+    ensures read { IfOk result (λ _. AreRead (dated_items faults.now times.now)) }
 {
     // Behind the empty array.
     let (_, rest) = frame.split_at(26);
     let mut text = String::from_str(alloc, HEAD)?;
-    push_items(alloc, &mut text, faults)?;
+    push_items(alloc, &mut text, faults, times)?;
     text.push_str(rest)?;
     Ok(text)
 }
 
 /// Adds the objects of faults, and the bracket that closes their array.
-fn push_items(alloc: Global, out: &mut String, faults: &[Fault]) -> Result<(), AllocError>
-    ensures text { OnOk result (string_bytes out.new ≡ string_bytes out.old ++ items_text false (fault_items faults.now)) }
-    ensures read { OnOk result (AreRead (fault_items faults.now)) }
+fn push_items(
+    alloc: Global,
+    out: &mut String,
+    faults: &[Fault],
+    times: &[Timestamps],
+) -> Result<(), AllocError>
+    ensures text { OnOk result (string_bytes out.new ≡ string_bytes out.old ++ items_text false (dated_items faults.now times.now)) }
+    ensures read { OnOk result (AreRead (dated_items faults.now times.now)) }
 {
     let mut later = false;
+    let mut left = times;
     for fault in faults {
-        push_item(alloc, out, later, fault)?;
+        push_item(alloc, out, later, fault, first_of(left))?;
         later = true;
+        left = rest_of(left);
     }
     out.push_str("]")
 }
 
 /// Adds the object of a fault, after a comma where another stands before it.
-fn push_item(alloc: Global, out: &mut String, later: bool, fault: &Fault) -> Result<(), AllocError>
-    ensures text { OnOk result (string_bytes out.new ≡ string_bytes out.old ++ (comma_if later ++ compact_text (fault_value fault.now))) }
-    ensures read { OnOk result (IsRead (fault_value fault.now)) }
+fn push_item(
+    alloc: Global,
+    out: &mut String,
+    later: bool,
+    fault: &Fault,
+    times: Timestamps,
+) -> Result<(), AllocError>
+    ensures text { OnOk result (string_bytes out.new ≡ string_bytes out.old ++ (comma_if later ++ compact_text (dated_value fault.now times))) }
+    ensures read { OnOk result (IsRead (dated_value fault.now times)) }
 {
-    let object = text_of_fault(alloc, fault)?;
+    let object = text_of_dated(alloc, fault, times)?;
     let comma = if later { "," } else { "" };
     out.push_str(comma)?;
     out.push_str(object.as_str())
 }
 
-fn text_of_fault(alloc: Global, fault: &Fault) -> Result<String, AllocError>
-    ensures text { IfOk result (λ text. string_bytes text ≡ compact_text (fault_value fault.now)) }
-    ensures read { IfOk result (λ _. IsRead (fault_value fault.now)) }
+fn text_of_dated(alloc: Global, fault: &Fault, times: Timestamps) -> Result<String, AllocError>
+    ensures text { IfOk result (λ text. string_bytes text ≡ compact_text (dated_value fault.now times)) }
+    ensures read { IfOk result (λ _. IsRead (dated_value fault.now times)) }
 {
-    let value = value_of_fault(alloc, fault)?;
+    let value = value_of_dated(alloc, fault, times)?;
     let text = value.to_string(alloc)?;
     Ok(text)
 }

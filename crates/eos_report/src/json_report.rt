@@ -8,6 +8,7 @@ ghost use Rattle.eos_report.specs.steps.Frames.{IsFrame};
 ghost use Rattle.eos_report.specs.Reports.{counts_value, with_verdict, program_value, with_about, report_value, AreSeconds, AreTimes, IsReportText, IsTimedReportText};
 
 use crate::about::{About, Times};
+use crate::dates::Dates;
 use crate::json_faults::filled;
 use crate::note::values_of_notes;
 use crate::object::Object;
@@ -24,6 +25,8 @@ pub struct Findings<'a> {
     pub verdict: &'a Verdict,
     /// At no, the faults that are told: the first alone, or all. At yes they aren't looked at.
     pub faults: &'a [Fault],
+    /// When the records were written that these faults name.
+    pub dates: &'a Dates,
     pub notes: &'a [Note],
     pub tallies: &'a Tallies,
 }
@@ -38,11 +41,17 @@ pub fn report_text(
     found: Findings<'_>,
     times: Times,
 ) -> Result<String, AllocError>
-    ensures says { IfOk result (λ text. IsReportText about.entry found.entry.verdict.now found.entry.faults.now found.entry.notes.now found.entry.tallies.now (string_bytes text)) }
-    ensures timed { IfOk result (λ text. IsTimedReportText about.entry found.entry.verdict.now found.entry.faults.now found.entry.notes.now found.entry.tallies.now times (string_bytes text)) }
+    ensures says { IfOk result (λ text. IsReportText about.entry found.entry.verdict.now found.entry.faults.now found.entry.dates.now found.entry.notes.now found.entry.tallies.now (string_bytes text)) }
+    ensures timed { IfOk result (λ text. IsTimedReportText about.entry found.entry.verdict.now found.entry.faults.now found.entry.dates.now found.entry.notes.now found.entry.tallies.now times (string_bytes text)) }
 {
     let frame = frame_of(alloc, about, found, times)?;
-    let mut text = filled(alloc, frame, found.verdict, found.faults)?;
+    let mut text = filled(
+        alloc,
+        frame,
+        found.verdict,
+        found.faults,
+        found.dates.of_faults.as_slice(),
+    )?;
     text.push_str("\n")?;
     Ok(text)
 }
@@ -54,7 +63,7 @@ fn frame_of(
     found: Findings<'_>,
     times: Times,
 ) -> Result<String, AllocError>
-    ensures { IfOk result (λ frame. IsFrame about.entry found.entry.verdict.now found.entry.notes.now found.entry.tallies.now times (string_bytes frame)) }
+    ensures { IfOk result (λ frame. IsFrame about.entry found.entry.verdict.now found.entry.dates.now found.entry.notes.now found.entry.tallies.now times (string_bytes frame)) }
 {
     let seconds = value_of_times(alloc, times)?;
     let value = value_of_report(alloc, about, found, seconds)?;
@@ -69,15 +78,16 @@ fn value_of_report(
     found: Findings<'_>,
     seconds: Value,
 ) -> Result<Value, AllocError>
-    ensures { IfOk result (λ value. view value ≡ report_value about.entry found.entry.verdict.now [] found.entry.notes.now found.entry.tallies.now (view seconds)) }
+    ensures { IfOk result (λ value. view value ≡ report_value about.entry found.entry.verdict.now [] found.entry.dates.now found.entry.notes.now found.entry.tallies.now (view seconds)) }
 {
     let mut made = Object::new(alloc);
     put_about(alloc, &mut made, about)?;
-    put_verdict(alloc, &mut made, found.verdict)?;
+    put_verdict(alloc, &mut made, found)?;
     let notes = values_of_notes(alloc, found.notes)?;
     made.put("notes", Value::Array(notes))?;
     put_tallies(alloc, &mut made, found.tallies)?;
     made.put("seconds", seconds)?;
+    made.put("timestamps_read", Value::Bool(found.dates.read))?;
     Ok(made.into_value())
 }
 
@@ -105,10 +115,10 @@ fn value_of_program(alloc: Global, about: About<'_>) -> Result<Value, AllocError
 
 /// Puts the answer in, and the counts of a yes; of a no an array that lists no fault.
 #[tactic(auto, unfolding(crate::specs::Reports::with_verdict))]
-fn put_verdict(alloc: Global, out: &mut Object, verdict: &Verdict) -> Result<(), AllocError>
-    ensures { OnOk result (held out.new ≡ with_verdict verdict.now [] (held out.old)) }
+fn put_verdict(alloc: Global, out: &mut Object, found: Findings<'_>) -> Result<(), AllocError>
+    ensures { OnOk result (held out.new ≡ with_verdict found.entry.verdict.now [] found.entry.dates.now.of_faults (held out.old)) }
 {
-    match verdict {
+    match found.verdict {
         Verdict::Yes(counts) => {
             out.put_str("answer", "yes")?;
             let counts = value_of_counts(alloc, *counts)?;

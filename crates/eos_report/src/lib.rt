@@ -3,6 +3,7 @@
 #![tactic(auto)]
 
 mod about;
+mod dates;
 mod fault;
 mod html;
 mod json_fault;
@@ -19,6 +20,7 @@ mod tally;
 mod tellings;
 
 pub use about::{About, Times};
+pub use dates::{Dates, Timestamps};
 pub use eos_verdict::{text_of_fault, verdict_line};
 pub use fault::ReportFault;
 pub use json_report::{Findings, report_text};

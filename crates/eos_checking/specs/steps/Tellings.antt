@@ -17,9 +17,11 @@ use Rattle.eos_notes.specs.TalliesByLogs.{tallies_by}
 use Rattle.eos_source.specs.Said.{Known}
 use Rattle.eos_source_check.specs.Listed.{IsListOf}
 use Rattle.eos_fold.specs.Parts.{PartLog}
+use Rattle.eos_report.specs.declared.dates.Dates.{Dates}
 use Rattle.eos_reading.specs.declared.epoch.EpochEntry.{EpochEntry}
 use Rattle.eos_words.specs.declared.demands.Demands.{Demands}
 use Rattle.eos_checking.specs.Checking.{AreMade, answer_text}
+use Rattle.eos_checking.specs.Dates.{IsTextWith, HasReport}
 use Rattle.eos_checking.specs.Demands.{exit_status, unmet_text}
 use Rattle.eos_checking.specs.declared.check.Made.{Made}
 use Rattle.eos_checking.specs.declared.check.Wanted.{Wanted}
@@ -31,7 +33,7 @@ use Rattle.eos_checking.specs.declared.source.SourceAnswer.{SourceAnswer}
 pub record IsReportBy (told : Told) (wanted : Wanted) (made : Made) : Type 0 where
   pub notes : List Note
   pub by : AreAllNotesBy told.spec.now told.logs.now.parts.items told.epochs.now (is_some (first_of told.logs.now.faults.items)) notes
-  pub says : AreMade wanted told.verdict.now told.faults.now notes (tallies_by told.spec.now.apps told.logs.now.parts.items told.logs.now.faults.items told.counted.now) made
+  pub says : AreMade wanted told.verdict.now told.faults.now told.dates.now notes (tallies_by told.spec.now.apps told.logs.now.parts.items told.logs.now.faults.items told.counted.now) made
 
 -- the fault that a verdict names
 abbrev pub first_alone : Verdict → List Fault
@@ -62,6 +64,10 @@ ReportsOf spec judged faults (Some wanted) None = ⊥
 ReportsOf spec judged faults (Some wanted) (Some made) =
     (told : Told) × (told.spec.now ≡ spec) × (told.logs.now ≡ judged.logs) × (told.counted.now ≡ judged.counted.items)
     × (told.epochs.now ≡ judged.epochs.items) × (told.verdict.now ≡ judged.verdict) × (told.faults.now ≡ faults) × IsReportBy told wanted made
+
+-- the report that was made is one of these faults with these times, where it was wanted
+pub record HasDates (wanted : Option Wanted) (faults : List Fault) (dates : Dates) (made : Option Made) : Type 0 where
+  pub is : HasReport (λ about. IsTextWith about faults dates) wanted made
 
 -- what is told of what was judged, with these faults, which are all or the first alone
 pub record TellsOf (spec : SpecFields) (judged : Judged) (faults : List Fault) (subject : Subject) (json all quiet : Bool) (terms : Terms) (about : Option Wanted) (answer : SourceAnswer) : Type 0 where

@@ -10,11 +10,11 @@ loop-form-preserved c =
     let so_far = c.loop-form.invariant in
     elim c.if-is_fold.branch [
       | then-is_fold w ↦ (
-        counted forms i c.form-item.result _ _ c.loop-form-test.true c.form-item.is (sym c.is_fold.ensures ∙ w.if-is_fold.true) so_far.0 w.count-is,
+        counted forms i _ _ _ c.loop-form-test.true (sym c.is_fold.ensures ∙ w.if-is_fold.true) so_far.0 w.count-is,
         omega (arith, so_far.1, w.count-is),
       )
       | else-is_fold w ↦ (
-        passed_by forms i c.form-item.result _ _ c.loop-form-test.true c.form-item.is (sym c.is_fold.ensures ∙ w.if-is_fold.false) so_far.0 w.count-is,
+        passed_by forms i _ _ _ c.loop-form-test.true (sym c.is_fold.ensures ∙ w.if-is_fold.false) so_far.0 w.count-is,
         omega (arith, so_far.1, w.count-is),
       )
     ]

@@ -2,6 +2,8 @@ use Rattle.std.proofs.Common.{true, List, subst}
 use Rattle.std.proofs.lemmas.Result.{err_from_is_err_and}
 use Rattle.eos_verdict.specs.declared.verdict.Fault.{Fault}
 use Rattle.eos_evidence.specs.SpecFields.{SpecFields}
+use Rattle.eos_source.specs.Said.{known_by}
+use Rattle.eos_checking.proofs.Dated.{dated}
 use Rattle.eos_checking.specs.steps.Tellings.{TellsOf}
 use Rattle.eos_checking.proofs.source.all_told.Goals as goal
 
@@ -9,11 +11,16 @@ pub returns-clause-answer : goal.returns-clause-answer
 returns-clause-answer g c =
     let asked = c.args.asked.now in
     let judged = c.args.judged.now in
-    let tells = subst (λ (s : SpecFields). TellsOf s judged c.as_slice.result.now asked.subject asked.json true asked.quiet asked.terms asked.report c.in_ok-answer.answer) c.spec.ensures.value c.in_ok-answer.ensures in
-    let of_list = subst (λ (fs : List Fault). TellsOf c.args.pieces.now.shape.now.spec judged fs asked.subject asked.json true asked.quiet asked.terms asked.report c.in_ok-answer.answer) c.as_slice.ensures.value tells in
+    let tells = subst (λ (s : SpecFields). TellsOf s judged c.as_slice-found.result.now asked.subject asked.json true asked.quiet asked.terms asked.report c.in_ok-answer.answer) c.spec.ensures.value c.in_ok-answer.ensures.told in
+    let of_list = subst (λ (fs : List Fault). TellsOf c.args.pieces.now.shape.now.spec judged fs asked.subject asked.json true asked.quiet asked.terms asked.report c.in_ok-answer.answer) c.as_slice-found.ensures.value tells in
     (c.in_ok-list.list.items, c.in_ok-list.ensures.list, of_list)
 
 pub returns-in_err-list-clause-earned : goal.returns-in_err-list-clause-earned
 returns-in_err-list-clause-earned g c =
     let p = err_from_is_err_and c.from_residual.result c.from_residual.ensures.1 in
     rw (p.1, p.2) c.in_err-list.ensures.earned
+
+pub returns-clause-dated : goal.returns-clause-dated
+returns-clause-dated g c =
+    let source = c.args.pieces.now.source.now in
+    dated (known_by (g.S.Source.said source) (g.S.Source.is_log source)) c.args.pieces.now.shape.now.partitions c.args.asked.now.report _ c.in_ok-dates.dates c.in_ok-answer.answer.report c.in_ok-dates.ensures c.in_ok-answer.ensures.dated

@@ -1,0 +1,116 @@
+-- The times of a report's records are those of the segments as they are read again.
+use Rattle.std.proofs.Common.{◌≡◌, ◌<◌, ◌≤◌, ℕ, ℤ, ◌+◌, Bool, true, false, List, [], ◌∷◌, ◌++◌, length, take, get_or, Option, None, Some, option_map, string_bytes, refl, sym, ap, subst, ◌∙◌, arith}
+use Rattle.std.specs.List.{Contains}
+use Rattle.std.proofs.lemmas.List.{take_more, take_all}
+use Rattle.eos_base.specs.declared.partition_name.PartitionName.{PartitionName}
+use Rattle.eos_verdict.specs.declared.verdict.Fault.{Fault}
+use Rattle.eos_verdict.specs.declared.verdict.Verdict.{Verdict}
+use Rattle.eos_claims.specs.declared.place.Place.{Place}
+use Rattle.eos_disk.specs.Entries.{Entry}
+use Rattle.eos_disk.specs.declared.names.Form.{Form}
+use Rattle.eos_disk.specs.Shapes.{IsShapeAt}
+use Rattle.eos_evidence.specs.declared.partition.Partition.{Partition}
+use Rattle.eos_evidence.specs.Evidence.{EvidenceParts, segments_of}
+use Rattle.eos_notes.specs.declared.note.Note.{Note}
+use Rattle.eos_notes.specs.declared.tally.Tallies.{Tallies}
+use Rattle.eos_report.specs.declared.about.About.{About}
+use Rattle.eos_report.specs.declared.dates.Dates.{Dates}
+use Rattle.eos_report.specs.declared.dates.Timestamps.{Timestamps}
+use Rattle.eos_report.specs.Reports.{IsReportText}
+use Rattle.eos_source.specs.Said.{Known}
+use Rattle.eos_source.specs.Saying.{known_at}
+use Rattle.eos_source_check.specs.Times.{AreTimesNamed}
+use Rattle.eos_checking.specs.Checking.{IsMadeIf}
+use Rattle.eos_checking.specs.declared.check.Made.{Made}
+use Rattle.eos_checking.specs.declared.check.Wanted.{Wanted}
+use Rattle.eos_checking.specs.Dates.{time_at, IsTimeOf, AreTimesOfFault, AreTimesOfFaults, AreReadIf, AreDates, IsTextWith, IsDatedText, HasReport, IsDated, IsDatedIn}
+use Rattle.eos_checking.specs.steps.Tellings.{HasDates}
+
+-- ---- fault by fault
+
+faults_push : (known : ℕ → Known) (partitions : List Partition) (faults : List Fault) (times : List Timestamps) (fault : Fault) (t : Timestamps) → AreTimesOfFaults known partitions faults times
+    → AreTimesOfFault known partitions fault t → AreTimesOfFaults known partitions (faults ++ fault ∷ []) (times ++ t ∷ [])
+faults_push known partitions [] [] fault t h one = (one, tt)
+faults_push known partitions [] (x ∷ xs) fault t h one = absurd h
+faults_push known partitions (f ∷ fs) [] fault t h one = absurd h
+faults_push known partitions (f ∷ fs) (x ∷ xs) fault t h one = (h.0, faults_push known partitions fs xs fault t h.1 one)
+
+-- one fault further
+pub faults_more : (known : ℕ → Known) (partitions : List Partition) (faults : List Fault) (i : ℕ) (fault : Fault) (before after : List Timestamps) (t : Timestamps) → i < length faults → fault ≡ get_or faults i fault
+    → AreTimesOfFaults known partitions (take i faults) before → AreTimesOfFault known partitions fault t → after ≡ before ++ t ∷ [] → AreTimesOfFaults known partitions (take (i + 1) faults) after
+faults_more known partitions faults i fault before after t lt is h one pushed =
+    let more : take i faults ++ fault ∷ [] ≡ take (i + 1) faults = sym (take_more faults i fault lt ∙ ap (λ (f : Fault). take i faults ++ f ∷ []) (sym is)) in
+    subst (λ (ts : List Timestamps). AreTimesOfFaults known partitions (take (i + 1) faults) ts) (sym pushed)
+    (subst (λ (fs : List Fault). AreTimesOfFaults known partitions fs (before ++ t ∷ [])) more (faults_push known partitions (take i faults) before fault t h one))
+
+pub faults_all : (known : ℕ → Known) (partitions : List Partition) (faults : List Fault) (i : ℕ) (times : List Timestamps) → length faults ≤ i → AreTimesOfFaults known partitions (take i faults) times
+    → AreTimesOfFaults known partitions faults times
+faults_all known partitions faults i times le h = subst (λ (fs : List Fault). AreTimesOfFaults known partitions fs times) (take_all i faults le) h
+
+-- ---- of one record, and read or not
+
+pub time_is : (known : ℕ → Known) (partitions : List Partition) (place : Place) (name : PartitionName) (offsets : List ℕ) (times : List (ℕ × ℤ)) (time : Option ℤ) → name ≡ place.partition → offsets ≡ place.offset ∷ []
+    → AreTimesNamed known 0 partitions name offsets times → time ≡ time_at place.offset times → IsTimeOf known partitions place time
+time_is known partitions place name offsets times time named alone are is =
+    record {
+      offsets = offsets;
+      among = subst (λ (os : List ℕ). Contains os place.offset) (sym alone) (0, omega arith, refl);
+      times = times;
+      are = subst (λ (n : PartitionName). AreTimesNamed known 0 partitions n offsets times) named are;
+      is = is;
+    }
+
+pub are_read : (known : ℕ → Known) (partitions : List Partition) (faults few : List Fault) (dates : Dates) (times : List Timestamps) → few ≡ take 10 faults → dates.read ≡ true → dates.of_faults ≡ times
+    → AreTimesOfFaults known partitions few times → AreDates known partitions faults dates
+are_read known partitions faults few dates times first is same h =
+    record {
+      are = subst (λ (b : Bool). AreReadIf b (AreTimesOfFaults known partitions (take 10 faults) dates.of_faults) dates.of_faults) (sym is)
+          (subst (λ (fs : List Fault). AreTimesOfFaults known partitions fs dates.of_faults) first
+          (subst (λ (ts : List Timestamps). AreTimesOfFaults known partitions few ts) (sym same) h));
+    }
+
+pub are_unread : (known : ℕ → Known) (partitions : List Partition) (faults : List Fault) (dates : Dates) → dates.read ≡ false → dates.of_faults ≡ [] → AreDates known partitions faults dates
+are_unread known partitions faults dates is none =
+    record { are = subst (λ (b : Bool). AreReadIf b (AreTimesOfFaults known partitions (take 10 faults) dates.of_faults) dates.of_faults) (sym is) none }
+
+-- ---- the report that has them
+
+pub with_dates : (about : About) (verdict : Verdict) (faults : List Fault) (dates : Dates) (notes : List Note) (tallies : Tallies) (b : Bool) (text : Option (List ℕ))
+    → IsMadeIf b (IsReportText about verdict faults dates notes tallies) text → IsMadeIf b (IsTextWith about faults dates) text
+with_dates about verdict faults dates notes tallies false text h = h
+with_dates about verdict faults dates notes tallies true None h = absurd h
+with_dates about verdict faults dates notes tallies true (Some text) h = record { verdict = verdict; notes = notes; tallies = tallies; says = h }
+
+by_if : (known : ℕ → Known) (partitions : List Partition) (about : About) (faults : List Fault) (dates : Dates) (b : Bool) (text : Option (List ℕ)) → AreDates known partitions faults dates
+    → IsMadeIf b (IsTextWith about faults dates) text → IsMadeIf b (IsDatedText known partitions about) text
+by_if known partitions about faults dates false text are h = h
+by_if known partitions about faults dates true None are h = absurd h
+by_if known partitions about faults dates true (Some text) are h = record { faults = faults; dates = dates; are = are; says = h }
+
+dated_by : (known : ℕ → Known) (partitions : List Partition) (wanted : Option Wanted) (faults : List Fault) (dates : Dates) (made : Option Made) → AreDates known partitions faults dates
+    → HasReport (λ about. IsTextWith about faults dates) wanted made → HasReport (IsDatedText known partitions) wanted made
+dated_by known partitions None faults dates made are h = tt
+dated_by known partitions (Some wanted) faults dates None are h = absurd h
+dated_by known partitions (Some wanted) faults dates (Some made) are h =
+    by_if known partitions wanted.about faults dates wanted.report (option_map string_bytes made.report) are h
+
+pub dated : (known : ℕ → Known) (partitions : List Partition) (wanted : Option Wanted) (faults : List Fault) (dates : Dates) (made : Option Made) → AreDates known partitions faults dates
+    → HasDates wanted faults dates made → IsDated known partitions wanted made
+dated known partitions wanted faults dates made are h = record { is = dated_by known partitions wanted faults dates made are h.is }
+
+-- what was made of these faults with these times
+pub has_dates : (asked : Option Wanted) (wanted : Wanted) (faults : List Fault) (dates : Dates) (made : Made) → asked ≡ Some wanted
+    → IsMadeIf wanted.report (IsTextWith wanted.about faults dates) (option_map string_bytes made.report) → HasDates asked faults dates (Some made)
+has_dates asked wanted faults dates made is h =
+    record { is = subst (λ (o : Option Wanted). HasReport (λ about. IsTextWith about faults dates) o (Some made)) (sym is) h }
+
+pub none_wanted : (asked : Option Wanted) (faults : List Fault) (dates : Dates) (made : Option Made) → asked ≡ None → HasDates asked faults dates made
+none_wanted asked faults dates made is =
+    record { is = subst (λ (o : Option Wanted). HasReport (λ about. IsTextWith about faults dates) o made) (sym is) tt }
+
+pub dated_in : (holds : List ℕ → Entry) (folder : List ℕ) (shape : EvidenceParts) (forms : List Form) (wanted : Option Wanted) (made : Option Made) → IsShapeAt holds folder shape forms
+    → IsDated (known_at holds folder (segments_of shape.partitions) forms) shape.partitions wanted made → IsDatedIn holds folder wanted made
+dated_in holds folder shape forms wanted made is h = record { shape = shape; forms = forms; is = is; dated = h }
+
+pub dated_too : (holds : List ℕ → Entry) (folder : List ℕ) (wanted : Option Wanted) (made told : Option Made) → told ≡ made → IsDatedIn holds folder wanted made → IsDatedIn holds folder wanted told
+dated_too holds folder wanted made told same h = subst (λ (m : Option Made). IsDatedIn holds folder wanted m) (sym same) h

@@ -1,0 +1,211 @@
+//! When the records were written that the faults of a report name. Of what is kept of a log no times are left, so the segments in which
+//! they lie are read a second time.
+
+ghost use Rattle.std.specs.Prelude.{◌≡◌, ◌∷◌, [], false, take, IfOk, option_map};
+ghost use Rattle.eos_claims.specs.Plain.{plain_source};
+ghost use Rattle.eos_source.specs.Said.{known_by};
+ghost use Rattle.eos_checking.specs.Dates.{record_of, claim_of, time_at, IsTimeOf, IsTimeIf, AreTimesOfFault, AreTimesOfFaults, AreDates};
+
+use crate::check::Wanted;
+use crate::source::Pieces;
+use bytes::Bytes;
+use eos_base::{Listed, PartitionName};
+use eos_check::Fault;
+use eos_claims::{Place, SourceRef};
+use eos_report::{Dates, Timestamps};
+use eos_source::Source;
+use eos_source_check::{Unlisted, times_named};
+use eos_verdict::LineageFault;
+use std::alloc::{AllocError, Global};
+use std::slice;
+
+/// Of so many faults the records are read: for each a walk over the segments in which they lie.
+const FIRST: usize = 10;
+
+/// The same place, with its name lent.
+fn lent(place: &Place) -> SourceRef<'_>
+    ensures { plain_source result ≡ place.now }
+{
+    SourceRef {
+        topic: place.partition.topic.as_slice(),
+        partition: place.partition.partition,
+        offset: place.offset,
+    }
+}
+
+/// The place at which a fault stands, or of the input that it speaks of.
+fn record_of(fault: &Fault) -> Option<SourceRef<'_>>
+    ensures { option_map plain_source result ≡ record_of fault.now }
+{
+    match fault {
+        Fault::Partition(fault) => Some(SourceRef {
+            topic: fault.topic.as_slice(),
+            partition: fault.partition,
+            offset: fault.offset,
+        }),
+        Fault::Log(fault) => Some(SourceRef {
+            topic: b"__transaction_state".as_slice(),
+            partition: fault.partition,
+            offset: fault.offset,
+        }),
+        Fault::Match(_) => None,
+        Fault::Lineage(LineageFault::Record(fault)) => Some(SourceRef {
+            topic: fault.partition.topic.as_slice(),
+            partition: fault.partition.partition,
+            offset: fault.offset,
+        }),
+        Fault::Lineage(LineageFault::Output { fault, .. }) => Some(lent(&fault.source)),
+    }
+}
+
+/// The place of the record that has a fault's claim.
+fn claim_of(fault: &Fault) -> Option<SourceRef<'_>>
+    ensures { option_map plain_source result ≡ claim_of fault.now }
+{
+    match fault {
+        Fault::Lineage(LineageFault::Output { fault, .. }) => match &fault.at {
+            None => None,
+            Some(place) => Some(lent(place)),
+        },
+        Fault::Lineage(LineageFault::Record(_)) => None,
+        Fault::Partition(_) => None,
+        Fault::Log(_) => None,
+        Fault::Match(_) => None,
+    }
+}
+
+/// The first of these times at this offset.
+fn time_at(times: &[(u64, i64)], offset: u64) -> Option<i64>
+    ensures { result ≡ time_at offset times.now }
+{
+    for time in times {
+        if time.0 == offset {
+            return Some(time.1);
+        }
+    }
+    None
+}
+
+fn name_of(alloc: Global, place: SourceRef<'_>) -> Result<PartitionName, AllocError>
+    ensures { IfOk result (λ name. name ≡ (plain_source place.entry).partition) }
+{
+    let topic = Bytes::copy_from_slice(alloc, place.topic)?;
+    Ok(PartitionName {
+        topic,
+        partition: place.partition,
+    })
+}
+
+fn alone(offset: &u64) -> &[u64]
+    ensures { result.now ≡ offset.now ∷ [] }
+{
+    slice::from_ref(offset)
+}
+
+/// When the record at a place was written.
+#[tactic(auto, using(crate::proofs::Dated::time_is))]
+fn time_of<S: Source>(
+    alloc: Global,
+    pieces: &Pieces<'_, S>,
+    place: SourceRef<'_>,
+) -> Result<Option<i64>, Unlisted<S::Fault>>
+    ensures { IfOk result (IsTimeOf (known_by (S.said pieces.now.source.now) (S.is_log pieces.now.source.now)) pieces.now.shape.now.partitions (plain_source place.entry)) }
+{
+    let name = name_of(alloc, place)?;
+    let offsets = alone(&place.offset);
+    let times = times_named(alloc, pieces.source, pieces.shape, &name, offsets)?;
+    Ok(time_at(times.as_slice(), place.offset))
+}
+
+fn time_if<S: Source>(
+    alloc: Global,
+    pieces: &Pieces<'_, S>,
+    place: Option<SourceRef<'_>>,
+) -> Result<Option<i64>, Unlisted<S::Fault>>
+    ensures { IfOk result (IsTimeIf (known_by (S.said pieces.now.source.now) (S.is_log pieces.now.source.now)) pieces.now.shape.now.partitions (option_map plain_source place.entry)) }
+{
+    match place {
+        None => Ok(None),
+        Some(place) => time_of(alloc, pieces, place),
+    }
+}
+
+fn times_of_fault<S: Source>(
+    alloc: Global,
+    pieces: &Pieces<'_, S>,
+    fault: &Fault,
+) -> Result<Timestamps, Unlisted<S::Fault>>
+    ensures { IfOk result (AreTimesOfFault (known_by (S.said pieces.now.source.now) (S.is_log pieces.now.source.now)) pieces.now.shape.now.partitions fault.now) }
+{
+    let own = time_if(alloc, pieces, record_of(fault))?;
+    let claim = time_if(alloc, pieces, claim_of(fault))?;
+    Ok(Timestamps { own, claim })
+}
+
+/// The times of the records that these faults name.
+fn times_of_faults<S: Source>(
+    alloc: Global,
+    pieces: &Pieces<'_, S>,
+    faults: &[Fault],
+) -> Result<Vec<Timestamps>, Unlisted<S::Fault>>
+    ensures { IfOk result (λ times. AreTimesOfFaults (known_by (S.said pieces.now.source.now) (S.is_log pieces.now.source.now)) pieces.now.shape.now.partitions faults.now times.items) }
+{
+    let mut times = Vec::new(alloc);
+    for fault in faults {
+        times.push(times_of_fault(alloc, pieces, fault)?)?;
+    }
+    Ok(times)
+}
+
+fn unread(alloc: Global) -> Dates
+    ensures read { result.read ≡ false }
+    ensures none { result.of_faults ≡ [] }
+{
+    Dates {
+        of_faults: Listed::new(Vec::new(alloc)),
+        read: false,
+    }
+}
+
+/// At most the first ten.
+#[tactic(auto, using(std::proofs::lemmas::List::take_min))]
+fn first_of(faults: &[Fault]) -> &[Fault]
+    ensures { result.now ≡ take 10 faults.now }
+{
+    &faults[..FIRST.min(faults.len())]
+}
+
+/// The times of the records that the first faults name, or that they can't be read.
+#[tactic(auto, using(crate::proofs::Dated::are_read, crate::proofs::Dated::are_unread))]
+fn dates_of<S: Source>(
+    alloc: Global,
+    pieces: &Pieces<'_, S>,
+    faults: &[Fault],
+) -> Result<Dates, AllocError>
+    ensures { IfOk result (AreDates (known_by (S.said pieces.now.source.now) (S.is_log pieces.now.source.now)) pieces.now.shape.now.partitions faults.now) }
+{
+    match times_of_faults(alloc, pieces, first_of(faults)) {
+        Ok(times) => Ok(Dates {
+            of_faults: Listed::new(times),
+            read: true,
+        }),
+        Err(Unlisted::OutOfMemory) => Err(AllocError),
+        Err(_) => Ok(unread(alloc)),
+    }
+}
+
+/// The same where a report is wanted; else nothing is read.
+#[tactic(auto, using(crate::proofs::Dated::are_unread))]
+pub(crate) fn dates_if<S: Source>(
+    alloc: Global,
+    pieces: &Pieces<'_, S>,
+    faults: &[Fault],
+    wanted: Option<Wanted<'_>>,
+) -> Result<Dates, AllocError>
+    ensures { IfOk result (AreDates (known_by (S.said pieces.now.source.now) (S.is_log pieces.now.source.now)) pieces.now.shape.now.partitions faults.now) }
+{
+    match wanted {
+        Some(wanted) if wanted.report => dates_of(alloc, pieces, faults),
+        _ => Ok(unread(alloc)),
+    }
+}
