@@ -211,7 +211,9 @@ def right(what, text, lines, notes, report):
     faults = report.get("faults", [])
     first = lines.splitlines()[0] + "\n"
     same(f"{what}: the verdict", verdict, first)
-    same(f"{what}: the notes", told, in_page(notes))
+    # How many segments were judged by folds is told on standard error and in a report; a page is about the evidence.
+    of_evidence = "".join(it for it in notes.splitlines(keepends=True) if not it.endswith(" were judged by folds\n"))
+    same(f"{what}: the notes", told, in_page(of_evidence))
     if report["answer"] == "yes":
         counts = re.findall(r"(transactions|inputs|outputs): (\d+)", page.texts["p"][1])
         same(f"{what}: in words", (page.texts["p"][1][:4], {name: int(n) for name, n in counts}), ("Yes:", report["counts"]))
