@@ -287,7 +287,8 @@ def all_faults():
         for name, status, _ in rows:
             if status == "1":
                 run("check", "--quiet", "--all", "--report", path, f"{top}/{name}")
-                report = report_in(path)
+                with open(path, encoding="utf-8") as file:
+                    report = json.load(file)
                 os.remove(path)
                 count += check_times(f"{top}/{name}", report)
                 longest = max(longest, len(report["faults"]))
