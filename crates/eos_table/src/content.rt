@@ -22,7 +22,10 @@ pub enum Content {
     Of(Bytes, Option<TxnValue>),
 }
 
-fn read_id(alloc: Global, key: &[u8]) -> Result<Result<Option<Bytes>, RecordFault>, AllocError>
+pub(crate) fn read_id(
+    alloc: Global,
+    key: &[u8],
+) -> Result<Result<Option<Bytes>, RecordFault>, AllocError>
     ensures { IfOk result (λ read. read ≡ read_key key.now) }
 {
     let bytes = Bytes::copy_from_slice(alloc, key)?;
@@ -33,7 +36,10 @@ fn read_id(alloc: Global, key: &[u8]) -> Result<Result<Option<Bytes>, RecordFaul
     }
 }
 
-fn read_state(alloc: Global, value: &[u8]) -> Result<Result<TxnValue, RecordFault>, AllocError>
+pub(crate) fn read_state(
+    alloc: Global,
+    value: &[u8],
+) -> Result<Result<TxnValue, RecordFault>, AllocError>
     ensures { IfOk result (λ read. read ≡ read_value value.now) }
 {
     let bytes = Bytes::copy_from_slice(alloc, value)?;

@@ -4,6 +4,7 @@ ghost use Rattle.std.specs.Prelude.{◌≡◌};
 ghost use Rattle.std.specs.Option.{option_copied, option_map};
 ghost use Rattle.eos_table.specs.TransactionLog.{flat, state_of, kind_of_status, is_unfinished, is_transaction_part};
 
+use crate::held::Held;
 use bytes::Bytes;
 use eos_batch::Kind;
 use eos_kept::Part;
@@ -23,12 +24,25 @@ pub fn last_value<'a>(last: &'a LastValues, id: &Bytes) -> Option<Option<&'a Txn
     }
 }
 
+/// The same of values as a pass holds them.
+pub(crate) type HeldValues = BTreeMap<Bytes, Option<Held>>;
+
+/// The last value of this transactional id; none where it has none yet.
+pub(crate) fn last_held<'a>(last: &'a HeldValues, id: &Bytes) -> Option<Option<&'a Held>>
+    ensures { option_map option_copied result ≡ state_of last.entry.now id.now }
+{
+    match last.get(id) {
+        None => None,
+        Some(value) => Some(value.as_ref()),
+    }
+}
+
 /// Whether a transaction of this id goes on, or its end isn't written.
-pub(crate) fn is_open(last: &LastValues, id: &Bytes) -> bool
+pub(crate) fn is_open(last: &HeldValues, id: &Bytes) -> bool
     ensures { result ≡ is_unfinished (flat (state_of last.now id.now)) }
 {
     match last.get(id) {
-        Some(Some(value)) => value.status.is_open(),
+        Some(Some(value)) => value.bare().status.is_open(),
         _ => false,
     }
 }

@@ -2,19 +2,21 @@
 
 ghost use Rattle.std.specs.Prelude.{◌≡◌, [], ◌∷◌, ◌++◌, fold, unsigned_abs, OnOk, IfOk};
 ghost use Rattle.std.specs.List.{flat_map};
-ghost use Rattle.std.specs.Option.{option_copied};
-ghost use Rattle.eos_table.specs.TransactionLog.{content_of, state_of, step_at, steps_after, steps_of, all_steps, next_state, state_after, decision_between, transaction_parts};
-ghost use Rattle.eos_table.specs.declared.content.Content.TheVariants.{Of};
-ghost use Rattle.eos_table.specs.steps.LogCandidates.{after, unread, taken, open_at, step_faults, faults_at, faults_after, part_faults, step_of};
+ghost use Rattle.std.specs.Option.{option_copied, option_map};
+ghost use Rattle.eos_table.specs.TransactionLog.{content_of, content_of_value, state_of, step_at, steps_after, steps_of, all_steps, next_state, state_after, decision_between, transaction_parts};
+ghost use Rattle.eos_table.specs.declared.content.Content.TheVariants.{Of, Unreadable};
+ghost use Rattle.eos_table.specs.steps.LogCandidates.{after, unread, bad_at, taken, open_at, step_faults, faults_at, faults_after, part_faults, step_of};
 
-use crate::content::{Content, read_content};
-use crate::last_values::{LastValues, is_of_transaction_log, is_open, kind_of_status, last_value};
+use crate::held::{Held, is_held_skipped, may_follow};
+use crate::known::Known;
+use crate::last_values::{HeldValues, is_of_transaction_log, is_open, kind_of_status, last_held};
 use crate::log_faults::LogFaults;
 use crate::mark::{Mark, Place, producer_of};
 use crate::settled::are_settled;
 use bytes::Bytes;
+use eos_base::RecordFault;
 use eos_kept::{ItemRef, Part};
-use eos_txnlog::{Decision, TxnValue, is_skipped, step_ok};
+use eos_txnlog::Decision;
 use eos_verdict::LogFaultKind;
 use std::alloc::{AllocError, Global};
 use std::collections::BTreeMap;
@@ -28,6 +30,8 @@ pub(crate) struct LogReading {
     pub decisions: Vec<Decision>,
     /// The faults that a record or the end of a partition shows by itself.
     pub faults: LogFaults,
+    /// What was read of keys and values.
+    known: Known,
 }
 
 impl Model for LogReading {
@@ -43,31 +47,32 @@ impl Model for LogReading {
 struct TxnRecord {
     place: Place,
     id: Bytes,
-    value: Option<TxnValue>,
+    value: Option<Held>,
 }
 
 /// Puts what a record decides at the end.
 fn push_decision(
     decisions: &mut Vec<Decision>,
     id: &Bytes,
-    before: Option<&TxnValue>,
-    value: Option<&TxnValue>,
+    before: Option<&Held>,
+    value: Option<&Held>,
 ) -> Result<(), AllocError>
     ensures { OnOk result (decisions.new.items ≡ decisions.old.items ++ decision_between id.now (option_copied before.entry) (option_copied value.entry)) }
 {
     let (Some(before), Some(value)) = (before, value) else {
         return Ok(());
     };
-    let Some(kind) = kind_of_status(value.status) else {
+    let after = value.bare();
+    let Some(kind) = kind_of_status(after.status) else {
         return Ok(());
     };
     decisions.push(Decision {
         id: id.clone()?,
-        producer: value.producer,
-        epoch: before.epoch,
-        marker_epoch: value.epoch,
+        producer: after.producer,
+        epoch: before.bare().epoch,
+        marker_epoch: after.epoch,
         kind,
-        partitions: value.partitions.clone()?,
+        partitions: value.partitions().clone()?,
     })?;
     Ok(())
 }
@@ -77,14 +82,14 @@ fn take_step(
     reading: &mut LogReading,
     place: Place,
     id: &Bytes,
-    before: Option<&TxnValue>,
-    value: Option<&TxnValue>,
+    before: Option<&Held>,
+    value: Option<&Held>,
 ) -> Result<(), AllocError>
     ensures { let step = step_of place.partition place.offset id.now (option_copied before.entry) (option_copied value.entry) in
         OnOk result (reading.new ≡ after reading.old (step ∷ []) (step_faults step)) }
 {
     push_decision(&mut reading.decisions, id, before, value)?;
-    if let Err(why) = step_ok(before, value) {
+    if let Err(why) = may_follow(before, value) {
         let kind = LogFaultKind::Step {
             id: id.clone()?,
             why,
@@ -104,7 +109,7 @@ fn take_step(
 fn take_value(
     alloc: Global,
     reading: &mut LogReading,
-    last: &mut LastValues,
+    last: &mut HeldValues,
     written: TxnRecord,
 ) -> Result<(), AllocError>
     ensures read { let content = Of written.id written.value in
@@ -112,9 +117,9 @@ fn take_value(
     ensures last { OnOk result (state_of last.new ≡ next_state (state_of last.old) (Of written.id written.value)) }
 {
     let TxnRecord { place, id, value } = written;
-    let before = last_value(last, &id);
+    let before = last_held(last, &id);
     let next = value.as_ref();
-    if is_skipped(alloc, before, next)? {
+    if is_held_skipped(alloc, before, next)? {
         return Ok(());
     }
     take_step(reading, place, &id, before.flatten(), next)?;
@@ -122,10 +127,56 @@ fn take_value(
     Ok(())
 }
 
+/// Takes up that a record doesn't read.
+fn take_unreadable(
+    reading: &mut LogReading,
+    place: Place,
+    fault: RecordFault,
+) -> Result<(), AllocError>
+    ensures { OnOk result (reading.new ≡ after reading.old [] (bad_at place.partition place.offset (Unreadable fault))) }
+{
+    let kind = LogFaultKind::BadRecord { record: fault };
+    reading.faults.take(place, kind)
+}
+
+/// Takes up a record of a transactional id, whose value has to be read.
+fn take_of_id(
+    alloc: Global,
+    reading: &mut LogReading,
+    last: &mut HeldValues,
+    id: Bytes,
+    at: (Place, Option<&[u8]>),
+) -> Result<(), AllocError>
+    ensures read { let content = content_of_value id (option_map (λ s. s.now) at.entry.1) in
+        OnOk result (reading.new ≡ after reading.old (step_at (state_of last.old) at.entry.0.partition at.entry.0.offset content) (faults_at (state_of last.old) at.entry.0.partition at.entry.0.offset content)) }
+    ensures last { OnOk result (state_of last.new ≡ next_state (state_of last.old) (content_of_value id (option_map (λ s. s.now) at.entry.1))) }
+{
+    let (place, value) = at;
+    let Some(bytes) = value else {
+        let written = TxnRecord {
+            place,
+            id,
+            value: None,
+        };
+        return take_value(alloc, reading, last, written);
+    };
+    match reading.known.value_of(alloc, bytes)? {
+        Err(fault) => take_unreadable(reading, place, fault),
+        Ok(held) => {
+            let written = TxnRecord {
+                place,
+                id,
+                value: Some(held),
+            };
+            take_value(alloc, reading, last, written)
+        }
+    }
+}
+
 fn take_record(
     alloc: Global,
     reading: &mut LogReading,
-    last: &mut LastValues,
+    last: &mut HeldValues,
     part: &Part,
     item: &ItemRef<'_>,
 ) -> Result<(), AllocError>
@@ -136,23 +187,20 @@ fn take_record(
         partition: part.partition(),
         offset: item.offset(),
     };
-    match read_content(alloc, item)? {
-        Content::Unreadable(record) => {
-            let kind = LogFaultKind::BadRecord { record };
-            reading.faults.take(place, kind)
-        }
-        Content::Other => Ok(()),
-        Content::Of(id, value) => {
-            let written = TxnRecord { place, id, value };
-            take_value(alloc, reading, last, written)
-        }
+    let Some(key) = item.key() else {
+        return take_unreadable(reading, place, RecordFault::Short);
+    };
+    match reading.known.id_of(alloc, key)? {
+        Err(fault) => take_unreadable(reading, place, fault),
+        Ok(None) => Ok(()),
+        Ok(Some(id)) => take_of_id(alloc, reading, last, id, (place, item.value())),
     }
 }
 
 fn take_records(
     alloc: Global,
     reading: &mut LogReading,
-    last: &mut LastValues,
+    last: &mut HeldValues,
     part: &Part,
 ) -> Result<(), AllocError>
     ensures read { OnOk result (reading.new ≡ after reading.old (steps_after (state_of last.old) part.now.number part.now.items) (faults_after (state_of last.old) part.now.number part.now.items)) }
@@ -178,7 +226,7 @@ fn end_of(part: &Part) -> Place
 
 fn push_open_id(
     faults: &mut LogFaults,
-    last: &LastValues,
+    last: &HeldValues,
     mark: &Mark,
     end: Place,
 ) -> Result<(), AllocError>
@@ -196,7 +244,7 @@ fn push_open_id(
 /// Takes up what is left unfinished at the end of a partition. Its records are looked at only where something is.
 fn push_open(
     faults: &mut LogFaults,
-    last: &LastValues,
+    last: &HeldValues,
     marks: &[Mark],
     end: Place,
 ) -> Result<(), AllocError>
@@ -213,14 +261,15 @@ fn push_open(
 
 impl LogReading {
     /// Nothing is read, and the faults to come are kept so.
-    fn new(alloc: Global, faults: LogFaults) -> LogReading
-        ensures { result ≡ unread faults }
+    fn new(alloc: Global, faults: LogFaults) -> Result<LogReading, AllocError>
+        ensures { IfOk result (λ reading. reading ≡ unread faults) }
     {
-        LogReading {
+        Ok(LogReading {
             marks: Vec::new(alloc),
             decisions: Vec::new(alloc),
             faults,
-        }
+            known: Known::new(alloc)?,
+        })
     }
 
     /// Takes up a partition of the log.
@@ -243,7 +292,7 @@ pub(crate) fn read_log(
 ) -> Result<LogReading, AllocError>
     ensures { IfOk result (λ reading. reading ≡ after (unread faults) (all_steps (transaction_parts parts.now)) (flat_map part_faults (transaction_parts parts.now))) }
 {
-    let mut reading = LogReading::new(alloc, faults);
+    let mut reading = LogReading::new(alloc, faults)?;
     for part in parts {
         if is_of_transaction_log(part) {
             reading.take_part(alloc, part)?;
