@@ -14,7 +14,7 @@ import subprocess
 
 import fold_files
 from fold_files import CLAIMS, PRESENCE, TEXTS, Claim, Head, sealed, text, unsigned
-from fold_folders import files_in, fold_bytes, fold_path, fold_words, folds_of, log_path, name_of, partitions_of, read, with_folds, write
+from fold_folders import files_in, fold_bytes, fold_path, fold_words, folds_of, log_path, name_of, note_of_folds, partitions_of, read, with_folds, write
 from mutants import LAST_OFFSET, varint
 
 GOOD = "tests/evidence/row-yes-2"
@@ -451,11 +451,11 @@ def refused_reads(tests):
     wanted, line = folds_of(GOOD)
     for step in STEPS:
         said = tests.run("check", place.folder, LD_PRELOAD=streams, FILE_STEP=str(step))
-        tests.same(f"folds read by {step} bytes", said, YES)
+        tests.same(f"folds read by {step} bytes", said, (*YES[:2], note_of_folds(place.folder)))
         out = tests.new("folds")
         said = tests.run(*fold_words(GOOD, out), LD_PRELOAD=streams, FILE_STEP=str(step))
         tests.same(f"logs folded by {step} bytes", (said, files_in(out)), ((0, line, ""), wanted))
-    failing(tests, place.folder, order, lambda: ["check", place.folder], YES, streams)
+    failing(tests, place.folder, order, lambda: ["check", place.folder], (*YES[:2], note_of_folds(place.folder)), streams)
     logs = ["evidence.json", *(log_path(it, 0) for it in partitions_of(GOOD))]
     failing(tests, GOOD, logs, lambda: fold_words(GOOD, tests.new("folds")), (0, line, ""), streams, wanted)
 
@@ -584,16 +584,18 @@ def there(tests, partition, place):
 
 
 def counted_refusals(tests, words, after):
-    """Each allocation of a run is refused in turn: its answer, or that memory ran out. What it wrote is looked at by `after`."""
+    """Each allocation of a run is refused in turn: its answer, or that memory ran out. What it wrote is looked at by `after`. Folds are counted
+    behind the answer, and where no memory is left for that their note is left out."""
     refuse, count = tests.libraries[0], os.path.join(tests.room, "count")
     good = tests.run(*words(), LD_PRELOAD=refuse, REFUSE_COUNT=count)
+    uncounted = (*good[:2], re.sub(r"eoscheck: note: .* were judged by folds\n", "", good[2]))
     after("no refused allocation", good)
     told, total = 0, int(read(count))
     for at in range(1, total + 1):
         given = words()
         said = tests.run(*given, LD_PRELOAD=refuse, REFUSE_AT=str(at))
         out_of_memory = 3, "", "eoscheck: out of memory\n"
-        tests.same(f"{given[0]}, allocation {at} refused", said in (good, out_of_memory), True)
+        tests.same(f"{given[0]}, allocation {at} refused", said in (good, uncounted, out_of_memory), True)
         told += said == out_of_memory
         after(f"allocation {at} refused", said)
     tests.same("refused allocations are told", told > 50, True)
