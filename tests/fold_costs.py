@@ -1,17 +1,19 @@
 """What hostile folds cost: memory by their own bytes, and time by a fold of a log of the same size and by the segment that they say.
 
 For tests/folds.py. Each fold is made by tests/fold_files.py, with its checksum right, and stands in the place of one of a good folder.
-There are 90, or as many as FOLD_COSTS says: `FOLD_COSTS=5000 python3 -B tests/folds.py PROGRAM '' '' costs` by hand. The last line but one
-tells the most that one of them took.
+There are 90, or as many as FOLD_COSTS says, which as many processes try as there are processors: by hand
+`FOLD_COSTS=5000 python3 -B tests/folds.py PROGRAM '' '' costs`. The last line but one tells the most that one of them took.
 """
+import multiprocessing
 import os
 import random
 import resource
 import subprocess
+import sys
 
 import fold_files
 from fold_files import CLAIMS, PRESENCE, TEXTS, Fold, Head
-from fold_folders import fold_path, folds_of, with_folds, write
+from fold_folders import Tests, fold_path, folds_of, with_folds, write
 
 GOOD = "tests/evidence/row-yes-2"
 # What a byte of a fold may hold. It is dearest where neither a key nor a value is there: three bytes say such a record, and a check holds
@@ -20,8 +22,10 @@ BYTES = 64
 # How many times the time of a fold of a log. Records that only have to be there take none of a fold's bytes, so a check of a fold may
 # take as long besides as reading the segment that it says would, by so many bytes a second.
 TIMES, SPEED = 10, 40_000_000
-# What runs differ by, in bytes and in seconds.
-ROOM, SECONDS = 2**18, 0.05
+# What runs differ by, in bytes and in seconds; and how many runs one may take that takes longer, for what else the machine does.
+ROOM, SECONDS, RUNS = 2**18, 0.05, 3
+# So many are tried by one process.
+FEW = 90
 # Of how many bytes a fold is at least of which it is told what it took, so that these are little beside it.
 TOLD_OF = 100_000
 PLACES = {PRESENCE: (b"in", 0), CLAIMS: (b"out", 0), TEXTS: (b"__consumer_offsets", 0)}
@@ -129,8 +133,8 @@ def more_bytes(tests, folder, least, size, few):
     return enough
 
 
-def costs(tests):
-    count, chance = int(os.environ.get("FOLD_COSTS", "90")), random.Random(7)
+def costs_of(tests, count, chance):
+    """Tries so many folds, and says what the dearest took: bytes of memory for each of its own, and how many times the time of a log's."""
     folds, _ = folds_of(GOOD)
     folder = with_folds(GOOD, folds, tests.new("costs"))
     least = least_for(tests, folder)
@@ -144,12 +148,38 @@ def costs(tests):
         write(os.path.join(folder, path), fold_files.file_of(logged(made.roles, len(data), chance)))
         right = spent(tests, folder)[1]
         write(os.path.join(folder, path), data)
-        status, found = spent(tests, folder, least + ROOM + BYTES * len(data))
+        enough = least + ROOM + BYTES * len(data)
+        status, found = spent(tests, folder, enough)
+        seconds = TIMES * right + made.size / SPEED + SECONDS
+        for _ in range(1, RUNS):
+            if found > seconds:
+                found = min(found, spent(tests, folder, enough)[1])
         if len(data) >= TOLD_OF:
             most_bytes = more_bytes(tests, folder, least, len(data), most_bytes)
             most_times = max(most_times, found / max(right, 0.01))
         write(os.path.join(folder, path), folds[path])
         tests.same(f"{kind}, {len(data)} bytes: its status, with {BYTES} bytes of memory for each of its own", status in (0, 1, 2), True)
-        seconds = TIMES * right + made.size / SPEED + SECONDS
         tests.same(f"{kind}, {len(data)} bytes, {found} s", found <= seconds, True)
+    return most_bytes, most_times
+
+
+def part_of(program, room, count, part):
+    """The same by a process of its own, and how many tests passed and failed there."""
+    os.mkdir(room)
+    tests = Tests(program, room)
+    most = costs_of(tests, count, random.Random(7 + part))
+    sys.stdout.flush()
+    return most, tests.passed, tests.failed
+
+
+def costs(tests):
+    count = int(os.environ.get("FOLD_COSTS", FEW))
+    parts = 1 if count <= FEW else os.cpu_count()
+    words = [(tests.program, tests.new(f"costs-{part}"), (count + part) // parts, part) for part in range(parts)]
+    sys.stdout.flush()
+    with multiprocessing.Pool(parts) as pool:
+        said = pool.starmap(part_of, words, 1)
+    tests.passed += sum(passed for _, passed, _ in said)
+    tests.failed += sum(failed for _, _, failed in said)
+    most_bytes, most_times = (max(most) for most in zip(*(most for most, _, _ in said)))
     print(f"{count} hostile folds: at most {most_bytes} bytes of memory for each of their own, and {most_times:.1f} times the time of a log's")
