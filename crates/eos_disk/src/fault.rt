@@ -75,18 +75,23 @@ impl DiskFault {
     }
 }
 
-/// Adds a name that the system lists. One that isn't UTF-8 is an error of its own, and left out.
+/// Adds a name that the system lists, but for the two that stand in each folder, for itself and for the one above. One that isn't UTF-8 is
+/// left out.
 pub(crate) fn push_listed(
     alloc: Global,
     names: &mut Vec<Bytes>,
-    name: Result<&str, &Error>,
+    name: Result<&[u8], &Error>,
 ) -> Result<(), DiskFault> {
     match name {
-        Ok(name) => names.push(Bytes::copy_from_slice(alloc, name.as_bytes())?)?,
-        Err(e) if e.kind() == ErrorKind::InvalidFilename => {}
+        Ok(name) if is_listed(name) => names.push(Bytes::copy_from_slice(alloc, name)?)?,
+        Ok(_) => {}
         Err(e) => return Err(DiskFault::of_error(alloc, e)),
     }
     Ok(())
+}
+
+fn is_listed(name: &[u8]) -> bool {
+    !matches!(name, b"." | b"..") && str::from_utf8(name).is_ok()
 }
 
 /// What the kind of an error says, or the error itself where its kind says nothing.

@@ -4,10 +4,11 @@
 use crate::change::{ChangeFault, DiskMut, synced};
 use crate::disk::Disk;
 use crate::fault::{DiskFault, push_listed};
+use crate::paths::with_slash;
 use bytes::Bytes;
 use std::alloc::Global;
-use std::fs::{self, File, ReadDir, TryLockError};
-use std::io::{self, Write};
+use std::fs::{self, File, Files, TryLockError};
+use std::io::{self, BufRead, BufReader, Write};
 use std::os::unix::fs::{FileTypeExt, MetadataExt};
 
 /// The system's files, of which nothing is known. Trusted: that they stand still while they are read.
@@ -39,12 +40,6 @@ impl<'a> HostDisk<'a> {
     fn rename(&self, from: &str, to: &str) -> io::Result<()> {
         fs::rename(self.rt, from, to)
     }
-
-    /// Trusted: an open folder. No part of its caller, so that no stack holds twice what it moves: 8 KiB for names.
-    #[inline(never)]
-    fn open_folder(&self, path: &str) -> io::Result<ReadDir> {
-        fs::read_dir(self.rt, path)
-    }
 }
 
 impl<'a> Disk for HostDisk<'a> {
@@ -64,18 +59,20 @@ impl<'a> Disk for HostDisk<'a> {
         File::open(self.rt, path).map_err(|e| DiskFault::of_error(alloc, &e))
     }
 
-    /// Trusted: these are all names in the folder of this path, each once.
+    /// Trusted: these are all names in the folder of this path, each once. They are read as the system gives them, each ended by a NUL:
+    /// `fs::read_dir` holds 8 KiB of them on the stack, and moves these.
     fn list(&self, alloc: Global, path: &str) -> Result<Vec<Bytes>, DiskFault> {
-        let mut names = Vec::new(alloc);
-        match &mut self.open_folder(path) {
-            Err(e) => return Err(DiskFault::of_listing(alloc, path, e, !self.stands(path))),
+        let opened = self.rt.open_dir(with_slash(alloc, path)?.as_str());
+        match opened.and_then(|folder| BufReader::new(alloc, folder)) {
+            Err(e) => Err(DiskFault::of_listing(alloc, path, &e, !self.stands(path))),
             Ok(folder) => {
-                for entry in folder {
-                    push_listed(alloc, &mut names, entry.as_ref().map(|it| it.file_name()))?;
+                let mut names = Vec::new(alloc);
+                for name in folder.split(alloc, 0) {
+                    push_listed(alloc, &mut names, name.as_ref().map(|it| it.as_slice()))?;
                 }
+                Ok(names)
             }
         }
-        Ok(names)
     }
 }
 

@@ -52,3 +52,12 @@ pub fn segment_path(
     let partition = partition_path(alloc, folder, name.topic.as_slice(), name.partition)?;
     file_path(alloc, &partition, name.base, form)
 }
+
+/// The path of a folder with a slash at its end, by which the system follows a link that leads to it. Where there is none it stays empty.
+pub(crate) fn with_slash(alloc: Global, path: &str) -> Result<String, AllocError> {
+    let mut path = String::from_str(alloc, path)?;
+    if !path.is_empty() && !path.ends_with('/') {
+        path.push('/')?;
+    }
+    Ok(path)
+}
