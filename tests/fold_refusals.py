@@ -584,18 +584,16 @@ def there(tests, partition, place):
 
 
 def counted_refusals(tests, words, after):
-    """Each allocation of a run is refused in turn: its answer, or that memory ran out. What it wrote is looked at by `after`. Folds are counted
-    behind the answer, and where no memory is left for that their note is left out."""
+    """Each allocation of a run is refused in turn: its answer, or that memory ran out. What it wrote is looked at by `after`."""
     refuse, count = tests.libraries[0], os.path.join(tests.room, "count")
     good = tests.run(*words(), LD_PRELOAD=refuse, REFUSE_COUNT=count)
-    uncounted = (*good[:2], re.sub(r"eoscheck: note: .* were judged by folds\n", "", good[2]))
     after("no refused allocation", good)
     told, total = 0, int(read(count))
     for at in range(1, total + 1):
         given = words()
         said = tests.run(*given, LD_PRELOAD=refuse, REFUSE_AT=str(at))
         out_of_memory = 3, "", "eoscheck: out of memory\n"
-        tests.same(f"{given[0]}, allocation {at} refused", said in (good, uncounted, out_of_memory), True)
+        tests.same(f"{given[0]}, allocation {at} refused", said in (good, out_of_memory), True)
         told += said == out_of_memory
         after(f"allocation {at} refused", said)
     tests.same("refused allocations are told", told > 50, True)

@@ -20,7 +20,9 @@ use Rattle.eos_text.specs.Writing.{WritesFront, WritesFrontOf}
 use Rattle.eos_checking.specs.Checking.{IsCheckAnswer, IsReportAsked}
 use Rattle.eos_checking.specs.Demands.{IsUnmetText}
 use Rattle.eos_checking.specs.declared.check.Wanted.{Wanted}
+use Rattle.eos_checking.specs.declared.folds.Folded.{Folded}
 use Rattle.eos_checking.specs.declared.terms.Terms.{Terms}
+use Rattle.eos_checking.specs.FoldCounts.{wanted_with}
 use Rattle.eos_checking.specs.Folders.{IsToldOf, HoldsAsRead, HoldsOf}
 use Rattle.eos_checking.specs.Sources.{IsAnswerFor, IsSourceAnswer, IsListAnswer}
 use Rattle.eos_checking.specs.declared.check.Said as told
@@ -93,28 +95,28 @@ folder_of holds folder shape forms all Holds is each = record { shape = shape; f
 
 -- ---- what is written
 
-told_for : (subject : Subject) (json all quiet : Bool) (terms : Terms) (about : Option Wanted) (answer : SourceAnswer) (old new : Option (List ℕ)) (said : Told) (e : EvidenceParts) → said.status ≡ answer.status
-    → string_bytes said.notes ≡ string_bytes answer.notes → string_bytes said.unmet ≡ string_bytes answer.unmet → said.report ≡ answer.report
-    → Appends old new (string_bytes answer.lines) → IsAnswerFor subject json all quiet terms about answer e → IsToldOf subject json all quiet terms about old new said e
-told_for subject json all quiet terms about answer old new said e status notes unmet report written is =
+told_for : (subject : Subject) (json all quiet : Bool) (terms : Terms) (about : Option Wanted) (answer : SourceAnswer) (folded : Folded) (old new : Option (List ℕ)) (said : Told) (e : EvidenceParts) → said.status ≡ answer.status
+    → string_bytes said.notes ≡ string_bytes answer.notes → said.folded ≡ folded → string_bytes said.unmet ≡ string_bytes answer.unmet → said.report ≡ answer.report
+    → Appends old new (string_bytes answer.lines) → IsAnswerFor subject json all quiet terms (wanted_with folded.folds about) answer e → IsToldOf subject json all quiet terms about old new said e
+told_for subject json all quiet terms about answer folded old new said e status notes counted unmet report written is =
     record {
       is_evidence = is.is_evidence;
       lines = (string_bytes answer.lines, subst (IsCheckAnswer (subject_text subject) e json all terms.demands (string_bytes answer.lines)) (sym status) is.lines, written);
       notes = subst (IsAllNotesText e quiet) (sym notes) is.notes;
       unmet = subst (IsUnmetText e terms) (sym unmet) is.unmet;
-      report = subst (IsReportAsked e all about) (sym report) is.report;
+      report = subst (λ (f : Folded). IsReportAsked e all (wanted_with f.folds about) said.report) (sym counted) (subst (IsReportAsked e all (wanted_with folded.folds about)) (sym report) is.report);
     }
 
-pub told_of : (holds : List ℕ → Entry) (folder : List ℕ) (subject : Subject) (json all quiet : Bool) (terms : Terms) (about : Option Wanted) (answer : SourceAnswer) (old new : Option (List ℕ)) (said : Told)
-    → said.status ≡ answer.status → string_bytes said.notes ≡ string_bytes answer.notes → string_bytes said.unmet ≡ string_bytes answer.unmet → said.report ≡ answer.report
-    → Appends old new (string_bytes answer.lines) → HoldsOf holds folder all (IsAnswerFor subject json all quiet terms about answer) → HoldsOf holds folder all (IsToldOf subject json all quiet terms about old new said)
-told_of holds folder subject json all quiet terms about answer old new said status notes unmet report written h =
+pub told_of : (holds : List ℕ → Entry) (folder : List ℕ) (subject : Subject) (json all quiet : Bool) (terms : Terms) (about : Option Wanted) (answer : SourceAnswer) (folded : Folded) (old new : Option (List ℕ)) (said : Told)
+    → said.status ≡ answer.status → string_bytes said.notes ≡ string_bytes answer.notes → said.folded ≡ folded → string_bytes said.unmet ≡ string_bytes answer.unmet → said.report ≡ answer.report
+    → Appends old new (string_bytes answer.lines) → HoldsOf holds folder all (IsAnswerFor subject json all quiet terms (wanted_with folded.folds about) answer) → HoldsOf holds folder all (IsToldOf subject json all quiet terms about old new said)
+told_of holds folder subject json all quiet terms about answer folded old new said status notes counted unmet report written h =
     record {
       shape = h.shape;
       forms = h.forms;
       is = h.is;
-      each = so_too (known_at holds folder (segments_of h.shape.partitions) h.forms) h.shape all (IsAnswerFor subject json all quiet terms about answer)
-          (IsToldOf subject json all quiet terms about old new said) (λ e is. told_for subject json all quiet terms about answer old new said e status notes unmet report written is) h.each;
+      each = so_too (known_at holds folder (segments_of h.shape.partitions) h.forms) h.shape all (IsAnswerFor subject json all quiet terms (wanted_with folded.folds about) answer)
+          (IsToldOf subject json all quiet terms about old new said) (λ e is. told_for subject json all quiet terms about answer folded old new said e status notes counted unmet report written is) h.each;
     }
 
 pub front_of : (holds : List ℕ → Entry) (folder : List ℕ) (subject : Subject) (json all quiet : Bool) (terms : Terms) (about : Option Wanted) (answer : SourceAnswer) (old new : Option (List ℕ))

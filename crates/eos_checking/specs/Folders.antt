@@ -16,6 +16,7 @@ use Rattle.eos_source_check.specs.Again.{AreAgain, AreThere}
 use Rattle.eos_text.specs.Writing.{Writes}
 use Rattle.eos_checking.specs.Checking.{IsCheckAnswer, IsReportAsked}
 use Rattle.eos_checking.specs.Demands.{IsUnmetText}
+use Rattle.eos_checking.specs.FoldCounts.{wanted_with}
 use Rattle.eos_checking.specs.declared.check.Wanted.{Wanted}
 use Rattle.eos_checking.specs.declared.terms.Terms.{Terms}
 use Rattle.eos_checking.specs.declared.check.Said.{Said}
@@ -26,7 +27,7 @@ pub record IsToldOf (subject : Subject) (json all quiet : Bool) (terms : Terms) 
   pub lines : Writes (IsCheckAnswer (subject_text subject) evidence json all terms.demands) old new said.status
   pub notes : IsAllNotesText evidence quiet (string_bytes said.notes)
   pub unmet : IsUnmetText evidence terms (string_bytes said.unmet)
-  pub report : IsReportAsked evidence all about said.report
+  pub report : IsReportAsked evidence all (wanted_with said.folded.folds about) said.report
 
 -- so it is with each evidence of this shape whose segments are such as the pieces said, and, where all faults are told, which has the
 -- partitions as they were read again

@@ -4,6 +4,7 @@ ghost use Rattle.std.specs.Prelude.{◌≡◌, ◌++◌, IfOk, string_bytes};
 ghost use Rattle.eos_ending.specs.Subjects.{subject_text};
 ghost use Rattle.eos_checking.specs.Checking.{verdict_answer, list_answer, answer_text};
 
+use crate::folds::Folded;
 use crate::terms::Terms;
 use eos_base::Workers;
 use eos_check::{Fault, Verdict};
@@ -35,7 +36,7 @@ pub struct Asked<'a, T> {
 /// What is made of a check beside its answer.
 #[derive(Clone, Copy)]
 pub struct Wanted<'a> {
-    /// What is said in it of the run.
+    /// What is said in it of the run, but for the count of folds, which is that of the folder.
     pub about: About<'a>,
     /// Whether a report is wanted, for programs.
     pub report: bool,
@@ -58,6 +59,8 @@ pub struct Said {
     pub status: u8,
     /// The lines of the notes, which are empty where these are left out.
     pub notes: String,
+    /// How many segments were judged by folds.
+    pub folded: Folded,
     /// The lines of the counts that aren't the expected ones.
     pub unmet: String,
     /// What was made beside it, if anything was wanted.

@@ -10,6 +10,7 @@ ghost use Rattle.eos_source.specs.Said.{known_by};
 ghost use Rattle.eos_text.specs.Writing.{WritesFront, WritesFrontOf};
 ghost use Rattle.eos_checking.specs.Checking.{IsCheckAnswer};
 ghost use Rattle.eos_checking.specs.Dates.{IsDated, IsDatedIn};
+ghost use Rattle.eos_checking.specs.FoldCounts.{IsFoldedAt, wanted_with};
 ghost use Rattle.eos_checking.specs.Folders.{IsToldOf, HoldsAsRead, HoldsOf};
 ghost use Rattle.eos_checking.specs.Sources.{IsAnswerFor};
 ghost use Rattle.eos_checking.specs.Refused.{IsFirst};
@@ -19,6 +20,7 @@ ghost use Rattle.eos_source_check.specs.Refusals.{IsUntold};
 ghost use Rattle.eos_checking.specs.declared.folder.Unchecked.TheVariants.{CannotWrite};
 
 use crate::check::{Asked, Said};
+use crate::folds::{Folded, folded_of, wanted_with};
 use crate::report::Timed;
 use crate::source::{Pieces, SourceAnswer, answer_all, answer_source};
 use eos_disk::{Disk, FolderFault, Shape, Watch, read_shape};
@@ -102,29 +104,42 @@ fn answer_shape<D: Disk, T: Timed + Watch, R: Threads + Sync>(
     }
 }
 
-/// Reads a folder, and answers. No more of it is held than its answer wants.
-#[tactic(auto, using(crate::proofs::FolderAnswers::folder_of, crate::proofs::Dated::dated_in))]
+/// Reads a folder, and answers, with how many of its segments are judged by folds. No more of it is held than its answer wants.
+#[tactic(auto, using(crate::proofs::FoldsCounted::folded_at, crate::proofs::FoldsCounted::answer_with, crate::proofs::FoldsCounted::dated_with))]
 fn answer_folder<D: Disk, T: Timed + Watch, R: Threads + Sync>(
     alloc: Global,
     threads: &R,
     folder: Folder<'_, D>,
     asked: &Asked<'_, T>,
-) -> Result<SourceAnswer, FolderFault>
-    ensures answer { IfOk result (λ answer. HoldsOf (D.holds folder.entry.disk.now) folder.entry.path.now asked.now.all
-        (IsAnswerFor asked.now.subject asked.now.json asked.now.all asked.now.quiet asked.now.terms asked.now.report answer)) }
-    ensures dated { IfOk result (λ answer. IsDatedIn (D.holds folder.entry.disk.now) folder.entry.path.now asked.now.report answer.report) }
+) -> Result<(SourceAnswer, Folded), FolderFault>
+    ensures answer { IfOk result (λ told. HoldsOf (D.holds folder.entry.disk.now) folder.entry.path.now asked.now.all
+        (IsAnswerFor asked.now.subject asked.now.json asked.now.all asked.now.quiet asked.now.terms (wanted_with told.1.folds asked.now.report) told.0)) }
+    ensures folded { IfOk result (λ told. IsFoldedAt (D.holds folder.entry.disk.now) folder.entry.path.now told.1) }
+    ensures dated { IfOk result (λ told. IsDatedIn (D.holds folder.entry.disk.now) folder.entry.path.now (wanted_with told.1.folds asked.now.report) told.0.report) }
     ensures first { IfErr result (IsFirstOfFolder (D.holds folder.entry.disk.now) folder.entry.path.now asked.now.all) }
 {
     let shape = read_shape(alloc, folder.disk, folder.path, asked.watch)?;
-    let answer = answer_shape(alloc, threads, folder, &shape, asked)?;
+    let folded = folded_of(shape.forms.as_slice());
+    let counting = Asked {
+        workers: asked.workers,
+        watch: asked.watch,
+        json: asked.json,
+        all: asked.all,
+        quiet: asked.quiet,
+        terms: asked.terms,
+        subject: asked.subject,
+        report: wanted_with(folded.folds, asked.report),
+    };
+    let answer = answer_shape(alloc, threads, folder, &shape, &counting)?;
     shape.listed?;
-    Ok(answer)
+    Ok((answer, folded))
 }
 
 /// Writes the lines of an answer, and hands on what else is told.
-fn told<W: Write>(writer: &mut W, answer: SourceAnswer) -> Result<Said, WriteFault>
+fn told<W: Write>(writer: &mut W, answer: SourceAnswer, folded: Folded) -> Result<Said, WriteFault>
     ensures status { IfOk result (λ said. said.status ≡ answer.status) }
     ensures notes { IfOk result (λ said. string_bytes said.notes ≡ string_bytes answer.notes) }
+    ensures folded { IfOk result (λ said. said.folded ≡ folded) }
     ensures unmet { IfOk result (λ said. string_bytes said.unmet ≡ string_bytes answer.unmet) }
     ensures report { IfOk result (λ said. said.report ≡ answer.report) }
     ensures lines { IfOk result (λ said. Appends (W.contents writer.old) (W.contents writer.new) (string_bytes answer.lines)) }
@@ -134,6 +149,7 @@ fn told<W: Write>(writer: &mut W, answer: SourceAnswer) -> Result<Said, WriteFau
     Ok(Said {
         status: answer.status,
         notes: answer.notes,
+        folded,
         unmet: answer.unmet,
         report: answer.report,
     })
@@ -141,12 +157,13 @@ fn told<W: Write>(writer: &mut W, answer: SourceAnswer) -> Result<Said, WriteFau
 
 /// Writes the answer to the evidence in a folder of a disk, by at most so many threads: the line of its verdict, or where all faults are
 /// asked for and one stands, theirs; as text or as JSON, of one of several folders after the words that say which.
+/// It tells how many of the folder's segments were judged by folds, and a report says the same.
 ///
 /// # Errors
 /// At `CannotWrite` a front of the lines was written. Before all is read and judged nothing is: `Refused` says which file or folder is no
 /// evidence or can't be read, or that memory ran out. It is the first refusal: that of the manifest, or of the first segment that is listed
 /// and isn't read, or, where each was opened, of the listing; where all faults are told also of a segment that is read again.
-#[tactic(auto, using(crate::proofs::FolderAnswers::told_of, crate::proofs::FolderAnswers::front_of, crate::proofs::FolderAnswers::known_of, crate::proofs::Dated::dated_too))]
+#[tactic(auto, using(crate::proofs::FolderAnswers::told_of, crate::proofs::FolderAnswers::front_of, crate::proofs::FolderAnswers::known_of, crate::proofs::FoldsCounted::folded_too, crate::proofs::FoldsCounted::dated_as_told))]
 pub fn check_folder_to<D: Disk, T: Timed + Watch, R: Threads + Sync, W: Write>(
     alloc: Global,
     threads: &R,
@@ -158,7 +175,8 @@ pub fn check_folder_to<D: Disk, T: Timed + Watch, R: Threads + Sync, W: Write>(
         (IsToldOf asked.now.subject asked.now.json asked.now.all asked.now.quiet asked.now.terms asked.now.report (W.contents writer.old) (W.contents writer.new) said)) }
     ensures known { (e : EvidenceParts) → AreKnown (D.holds folder.entry.disk.now) folder.entry.path.now → StandsAt (D.holds folder.entry.disk.now) folder.entry.path.now e
         → IfOk result (λ said. IsToldOf asked.now.subject asked.now.json asked.now.all asked.now.quiet asked.now.terms asked.now.report (W.contents writer.old) (W.contents writer.new) said e) }
-    ensures dated { IfOk result (λ said. IsDatedIn (D.holds folder.entry.disk.now) folder.entry.path.now asked.now.report said.report) }
+    ensures folded { IfOk result (λ said. IsFoldedAt (D.holds folder.entry.disk.now) folder.entry.path.now said.folded) }
+    ensures dated { IfOk result (λ said. IsDatedIn (D.holds folder.entry.disk.now) folder.entry.path.now (wanted_with said.folded.folds asked.now.report) said.report) }
     ensures unread { IfErr result (λ why. why ≢ CannotWrite → Keeps (W.contents writer.old) (W.contents writer.new)) }
     ensures first { IfErr result (IsFirst (D.holds folder.entry.disk.now) folder.entry.path.now asked.now.all) }
     ensures front { result ≡ Err CannotWrite → HoldsOf (D.holds folder.entry.disk.now) folder.entry.path.now asked.now.all
@@ -167,9 +185,9 @@ pub fn check_folder_to<D: Disk, T: Timed + Watch, R: Threads + Sync, W: Write>(
         → result ≡ Err CannotWrite → WritesFrontOf (IsCheckAnswer (subject_text asked.now.subject) e asked.now.json asked.now.all asked.now.terms.demands) (W.contents writer.old) (W.contents writer.new) }
 {
     match answer_folder(alloc, threads, folder, asked) {
-        Ok(answer) => {
+        Ok((answer, folded)) => {
             asked.watch.done();
-            match told(writer, answer) {
+            match told(writer, answer, folded) {
                 Ok(said) => Ok(said),
                 Err(_) => Err(Unchecked::CannotWrite),
             }

@@ -2,7 +2,7 @@
 
 use crate::check::{Asked, Made, Said, Wanted};
 use crate::folder::{Folder, Unchecked, check_folder_to};
-use crate::folds::{Folded, folded_in};
+use crate::folds::Folded;
 use crate::report_file::{ReportFile, begin_report, end_report, print_report};
 use crate::terms::Terms;
 use eos_disk::HostDisk;
@@ -274,12 +274,11 @@ fn check_folder(
     path: &str,
     progress: &Progress<'_>,
 ) -> Done {
-    let folded = folded_at(rt, work.words, path);
-    let asked = asked_by(work, path, folded.folds, progress);
+    let asked = asked_by(work, path, progress);
     match check_to(rt, threads, path, &asked, work.words.report) {
         Ok(said) => {
             say_notes(rt, progress.subject, said.notes.as_str());
-            say_folds(rt, progress.subject, folded, work.words.quiet);
+            say_folds(rt, progress.subject, said.folded, work.words.quiet);
             say_notes(rt, progress.subject, said.unmet.as_str());
             Done {
                 status: end_about(rt, progress.subject, Ending::Answered(said.status)),
@@ -296,21 +295,6 @@ fn check_folder(
             Done::with_status(end_unread(rt, progress.subject, &fault))
         }
     }
-}
-
-/// How many segments stand in a folder of the system's disk, and how many of them as folds, where it is asked for: a note tells it, or a
-/// report. The folder is listed for that once more.
-fn folded_at(rt: &HostRuntime, words: &Check<'_>, path: &str) -> Folded {
-    let disk = HostDisk { rt };
-    let folder = Folder { disk: &disk, path };
-    let none = Folded {
-        folds: 0,
-        segments: 0,
-    };
-    if words.quiet && words.report.is_none() {
-        return none;
-    }
-    folded_in(rt.alloc(), folder).unwrap_or(none)
 }
 
 /// The note of a verdict that rests on folds. It names nothing amiss, so `--strict` doesn't ask for it.
@@ -344,7 +328,6 @@ fn check_to(
 fn asked_by<'a, 'p>(
     work: Work<'_, 'a>,
     folder: &'a str,
-    folds: u64,
     progress: &'a Progress<'p>,
 ) -> Asked<'a, Progress<'p>> {
     let words = work.words;
@@ -352,7 +335,7 @@ fn asked_by<'a, 'p>(
         version: VERSION,
         folder,
         workers: words.workers.get(),
-        folds,
+        folds: 0,
     };
     Asked {
         workers: words.workers,

@@ -1,26 +1,17 @@
 //! How many of a folder's segments are judged by their folds.
 
-ghost use Rattle.std.specs.Prelude.{◌≡◌, IfSome, length};
-ghost use Rattle.eos_checking.specs.steps.FoldCounts.{is_fold, fold_count, IsFoldedAt};
+ghost use Rattle.std.specs.Prelude.{◌≡◌, length};
+ghost use Rattle.eos_checking.specs.FoldCounts.{is_fold, fold_count, wanted_with};
 
-use crate::folder::Folder;
-use eos_disk::{Disk, Form, Watch, read_shape};
-use std::alloc::Global;
+use crate::check::Wanted;
+use eos_disk::Form;
+use eos_report::About;
 
 /// How many segments a folder has, and how many of them stand there as their folds.
 #[derive(Clone, Copy)]
-pub(crate) struct Folded {
-    pub(crate) folds: u64,
-    pub(crate) segments: u64,
-}
-
-/// Nobody is told how far it is.
-struct Unwatched;
-
-impl Watch for Unwatched {
-    fn found(&self, _segments: u64) {}
-
-    fn read(&self, _bytes: u64) {}
+pub struct Folded {
+    pub folds: u64,
+    pub segments: u64,
 }
 
 fn is_fold(form: Form) -> bool
@@ -44,7 +35,8 @@ fn fold_count(forms: &[Form]) -> u64
     count
 }
 
-fn counted(forms: &[Form]) -> Folded
+/// Of segments in these forms.
+pub(crate) fn folded_of(forms: &[Form]) -> Folded
     ensures folds { result.folds ≡ fold_count forms.now }
     ensures segments { result.segments ≡ length forms.now }
 {
@@ -54,16 +46,15 @@ fn counted(forms: &[Form]) -> Folded
     }
 }
 
-/// Of the segments that a folder lists; nothing where it isn't evidence, or can't be listed. No segment is read.
-#[tactic(auto, using(crate::proofs::FoldsCounted::folded_at))]
-pub(crate) fn folded_in<D: Disk>(alloc: Global, folder: Folder<'_, D>) -> Option<Folded>
-    ensures { IfSome result (IsFoldedAt (D.holds folder.entry.disk.now) folder.entry.path.now) }
+/// What is wanted beside an answer, with this count in its report.
+pub(crate) fn wanted_with(folds: u64, wanted: Option<Wanted<'_>>) -> Option<Wanted<'_>>
+    ensures { result ≡ wanted_with folds wanted.entry }
 {
-    match read_shape(alloc, folder.disk, folder.path, &Unwatched) {
-        Err(_) => None,
-        Ok(shape) => match &shape.listed {
-            Err(_) => None,
-            Ok(()) => Some(counted(shape.forms.as_slice())),
-        },
+    match wanted {
+        None => None,
+        Some(it) => Some(Wanted {
+            about: About { folds, ..it.about },
+            ..it
+        }),
     }
 }

@@ -2,6 +2,7 @@
 use Rattle.eos_ending.specs.Subjects.{subject_text}
 use Rattle.eos_text.specs.Writing.{WritesFrontOf}
 use Rattle.eos_checking.specs.Checking.{IsCheckAnswer}
+use Rattle.eos_checking.specs.FoldCounts.{wanted_with}
 use Rattle.eos_checking.specs.Folders.{IsToldOf}
 use Rattle.eos_checking.proofs.FolderAnswers.{told_of, front_of, known_of}
 use Rattle.eos_checking.proofs.folder.check_folder_to.Goals as goal
@@ -13,7 +14,7 @@ returns-in-Ok-told-clause-known g c e known at =
     let old = g.W.Write.contents c.args.writer.now in
     let new = g.W.Write.contents c.told.new.writer in
     let t = c.in-Ok-told.ensures in
-    let of = told_of (g.D.Disk.holds c.args.folder.disk.now) folder asked.subject asked.json asked.all asked.quiet asked.terms asked.report c.in-Ok.answer old new c.in-Ok-told.said t.status t.notes t.unmet t.report t.lines
+    let of = told_of (g.D.Disk.holds c.args.folder.disk.now) folder asked.subject asked.json asked.all asked.quiet asked.terms asked.report c.in-Ok.answer c.in-Ok.folded old new c.in-Ok-told.said t.status t.notes t.folded t.unmet t.report t.lines
     c.in-Ok.ensures.answer in
     known_of (g.D.Disk.holds c.args.folder.disk.now) folder asked.all (IsToldOf asked.subject asked.json asked.all asked.quiet asked.terms asked.report old new c.in-Ok-told.said) e known at of
 
@@ -23,5 +24,5 @@ returns-in-Err-told-clause-known_front g c e known at failed =
     let folder = c.args.folder.path.now in
     let old = g.W.Write.contents c.args.writer.now in
     let new = g.W.Write.contents c.told.new.writer in
-    let of = front_of (g.D.Disk.holds c.args.folder.disk.now) folder asked.subject asked.json asked.all asked.quiet asked.terms asked.report c.in-Ok.answer old new c.in-Err-told.ensures.front c.in-Ok.ensures.answer in
+    let of = front_of (g.D.Disk.holds c.args.folder.disk.now) folder asked.subject asked.json asked.all asked.quiet asked.terms (wanted_with c.in-Ok.folded.folds asked.report) c.in-Ok.answer old new c.in-Err-told.ensures.front c.in-Ok.ensures.answer in
     known_of (g.D.Disk.holds c.args.folder.disk.now) folder asked.all (λ x. WritesFrontOf (IsCheckAnswer (subject_text asked.subject) x asked.json asked.all asked.terms.demands) old new) e known at of

@@ -1,5 +1,5 @@
 use Rattle.std.proofs.Common.{◌≡◌, ◌≤◌, take}
-use Rattle.eos_checking.specs.steps.FoldCounts.{fold_count}
+use Rattle.eos_checking.specs.FoldCounts.{fold_count}
 use Rattle.eos_checking.proofs.folds.fold_count.Given as goal
 
 abbrev pub invariant-loop-form : goal.invariant-loop-form
