@@ -5,3 +5,4 @@ pub mod Replies
 pub mod Backward
 pub mod Settled
 pub mod Ranges
+mod Refused

@@ -1,8 +1,8 @@
 -- A cluster that some list of events leads to: what holds of it, and an event more.
-use Rattle.std.proofs.Common.{◌≡◌, ◌++◌, ◌∷◌, [], ℕ, zero, suc, ◌+◌, ◌<◌, ◌≤◌, ◌^◌, ◌==◌, ◌||◌, false, true, Bool, List, ◌∙◌, sym, ap, subst, arith, refl, Some}
+use Rattle.std.proofs.Common.{◌≡◌, ◌++◌, ◌∷◌, [], ℕ, zero, suc, ◌+◌, ◌<◌, ◌≤◌, ◌^◌, ◌==◌, ◌||◌, false, true, Bool, List, ◌∙◌, sym, ap, subst, arith, refl, Some, inl, inr}
 use Rattle.std.specs.Prelude.{slice_get}
 use Rattle.std.specs.List.{All}
-use Rattle.std.proofs.lemmas.Bool.{ne_eqb}
+use Rattle.std.proofs.lemmas.Bool.{cases_lt, ne_eqb}
 use Rattle.std.proofs.lemmas.List.Elements.{All-head, All-tail, All-weaker}
 use Rattle.eos_machine.specs.declared.config.Config.{Config}
 use Rattle.eos_machine.specs.declared.state.Message.{Message}
@@ -86,6 +86,9 @@ small_at n [] k l h = tt
 small_at n (s ∷ ss) zero l h = small_in n s l (All-head (IsSafe n) s ss h)
 small_at n (s ∷ ss) (suc k) l h = small_at n ss k l (All-tail (IsSafe n) s ss h)
 
+pub named_there : (c : Config) (w : World) (n : ℕ) → IsReachedUnder c w → IsNamed c (slice_get w.messages n)
+named_there c w n r = named c w.messages n (is_formed c w r).messages
+
 pub needs : (c : Config) (w : World) (e : Event) → w.events < 2 ^ 31 → IsReachedUnder c w → Needs c w e
 needs c w e l r = at e (is_bounded c w r) (is_formed c w r)
   where
@@ -125,6 +128,19 @@ one_step u c w v e r l h = ap (counted w.events) h ∙ sym (not_full w.events (w
 
 pub full_step : (u : Switches) (c : Config) (w : World) (e : Event) → w.events ≡ 2 ^ 31 → (w, Full) ≡ step_under u c w e
 full_step u c w e h = sym (is_full w.events (w, Full) (counted w.events (happens_under u c w e)) h)
+
+-- the reply to an event is that of its happening, unless the cluster is full
+pub happens_reply : (c : Config) (w : World) (e : Event) → (w.events ≡ 2 ^ 31 → ⊥) → w.events ≤ 2 ^ 31 → (step c w e).1 ≡ (happens_under none c w e).1
+happens_reply c w e other most = ap (λ (x : Answer). x.1) (not_full w.events (w, Full) (counted w.events (happens_under none c w e)) (below w.events other most))
+  where
+    below : (n : ℕ) → (n ≡ 2 ^ 31 → ⊥) → n ≤ 2 ^ 31 → n < 2 ^ 31
+    below n other most = elim (cases_lt n (2 ^ 31)) [
+      | inl less ↦ less
+      | inr more ↦ absurd (other (omega (arith, most, more)))
+    ]
+
+pub full_reply : (c : Config) (w : World) (e : Event) → w.events ≡ 2 ^ 31 → (step c w e).1 ≡ Full
+full_reply c w e h = ap (λ (x : Answer). x.1) (is_full w.events (w, Full) (counted w.events (happens_under none c w e)) h)
 
 run_more_under : (c : Config) (w : World) (xs : List (Switches × Event)) (u : Switches) (e : Event) → world_under c w (xs ++ (u, e) ∷ []) ≡ (step_under u c (world_under c w xs) e).0
 run_more_under c w [] u e = refl

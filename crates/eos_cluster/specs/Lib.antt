@@ -1,3 +1,4 @@
+pub mod Breaches
 pub mod Courses
 pub mod Names
 pub mod steps

@@ -1,3 +1,4 @@
 pub mod Fetching
 pub mod Taken
 pub mod Restarting
+pub mod Refusing

@@ -1,6 +1,6 @@
 //! A cluster that takes events one by one.
 
-ghost use Rattle.std.specs.Prelude.{◌≡◌, ◌↔◌, ◌≤◌, ◌<◌, ◌^◌, ◌&&◌, not, true, [], Err, IfOk};
+ghost use Rattle.std.specs.Prelude.{◌≡◌, ◌↔◌, ◌≤◌, ◌<◌, ◌^◌, ◌&&◌, not, true, [], Err, IfOk, slice_get};
 ghost use Rattle.eos_evidence.specs.Evidence.{IsEvidence};
 ghost use Rattle.eos_machine.specs.LogIndexes.{IsConfig, output_index};
 ghost use Rattle.eos_machine.specs.World.{opening, log_at};
@@ -11,8 +11,13 @@ ghost use Rattle.eos_cluster.specs.declared.evidence.EvidenceRefusal.{EvidenceRe
 ghost use Rattle.eos_machine.specs.Evidences.{IsEvidenceOf, HasRoomForAll};
 ghost use Rattle.eos_machine.specs.Schedules.{IsOfSchedule};
 ghost use Rattle.eos_machine.specs.Switching.{none, any_on};
+ghost use Rattle.eos_machine.specs.Machine.{step};
+ghost use Rattle.eos_machine.specs.declared.event.Event.TheVariants.{Deliver};
+ghost use Rattle.eos_cluster.specs.Breaches.{broken, log_of};
+ghost use Rattle.eos_cluster.specs.steps.Refusing.{IsRefusal};
 ghost use Rattle.eos_cluster.specs.Courses.{IsStep, IsStepUnder, IsCounted};
 
+use crate::breaches::{broken, log_of_message, refusal};
 use crate::evidence::{EvidenceRefusal, evidence_of};
 use crate::happens::happen;
 use eos_broker::Store;
@@ -153,6 +158,33 @@ impl Cluster {
     {
         self.switches = switches;
         self.is_honest = self.is_honest && !switches.any_on();
+    }
+
+    /// Why a cluster that keeps its rules refuses the message of this number here, if it does.
+    #[tactic(auto, using(crate::proofs::Reaching::named_there, crate::proofs::Refused::refused_full, crate::proofs::Refused::refused_there))]
+    fn refusal(&self, number: u64) -> Option<Reply>
+        ensures { IsRefusal result (step self.now.config self.now.world (Deliver number)).1 }
+    {
+        if self.store.events() == MAX_EVENTS {
+            return Some(Reply::Full);
+        }
+        refusal(&self.store, number)
+    }
+
+    /// The rules that are broken where the message of this number is taken here: a cluster that keeps them refuses it, or writes it otherwise.
+    #[tactic(auto, using(crate::proofs::Reaching::named_there))]
+    pub fn broken(&self, number: u64) -> Switches
+        ensures { result ≡ broken self.now.switches self.now.config self.now.world number }
+    {
+        broken(&self.store, self.switches, self.refusal(number), number)
+    }
+
+    /// In which log the message of this number is to stand, by its place among all logs; for an end, which stands in none, 0.
+    #[tactic(auto, using(crate::proofs::Reaching::named_there))]
+    pub fn log_of(&self, number: u64) -> usize
+        ensures { result ≡ log_of self.now.config (slice_get self.now.world.messages number) }
+    {
+        log_of_message(&self.store, number)
     }
 
     /// Whether no switch was ever on.

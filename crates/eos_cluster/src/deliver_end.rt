@@ -14,7 +14,12 @@ use std::alloc::AllocError;
 
 /// Why the coordinator refuses the end of a transaction, if it does.
 #[tactic(auto, unfolding(eos_machine::specs::Answers::when))]
-fn end_refusal(store: &Store, application: usize, epoch: u16, kind: Kind) -> Option<Reply>
+pub(crate) fn end_refusal(
+    store: &Store,
+    application: usize,
+    epoch: u16,
+    kind: Kind,
+) -> Option<Reply>
     ensures { (u : Switches) → deliver_end u store.now.config store.now.world application epoch kind ≡ ended u store.now.config store.now.world application kind result }
 {
     let status = store.status(application);

@@ -26,7 +26,7 @@ pub struct EndMarker {
 }
 
 /// Whether a broker refuses an end marker.
-fn is_marker_fenced(store: &Store, switches: Switches, marker: EndMarker) -> bool
+pub(crate) fn is_marker_fenced(store: &Store, switches: Switches, marker: EndMarker) -> bool
     requires { marker.application < application_count store.now.config }
     ensures { result ≡ is_marker_fenced switches (producer_at store.now.world marker.application marker.place) marker.epoch }
 {

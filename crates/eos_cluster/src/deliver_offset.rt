@@ -42,7 +42,7 @@ fn is_stale(switches: Switches, generation: u64, now: u64) -> bool
 
 /// What the broker and the coordinator make of an offset: whether the transaction lists its partition, or the refusal.
 #[tactic(auto, unfolding(eos_machine::specs::Answers::when))]
-fn judge_offset(
+pub(crate) fn judge_offset(
     store: &Store,
     switches: Switches,
     request: Request,

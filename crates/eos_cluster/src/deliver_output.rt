@@ -54,7 +54,7 @@ fn is_out_of_order(switches: Switches, producer: Producer, epoch: u16, sequence:
 
 /// What a broker and the coordinator make of a record: whether the transaction lists its partition, or the refusal.
 #[tactic(auto, unfolding(eos_machine::specs::Answers::when))]
-fn judge_output(
+pub(crate) fn judge_output(
     store: &Store,
     switches: Switches,
     request: Request,

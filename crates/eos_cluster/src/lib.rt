@@ -5,6 +5,7 @@
 #![tactic(auto)]
 
 mod accept;
+mod breaches;
 mod cluster;
 mod deliver_end;
 mod deliver_marker;

@@ -1,0 +1,260 @@
+//! Which rules are broken where a message is taken.
+
+ghost use Rattle.std.specs.Prelude.{◌≡◌, ◌<◌, ℕ, slice_get, Option, Some};
+ghost use Rattle.eos_machine.specs.declared.event.Reply.{Reply};
+ghost use Rattle.eos_machine.specs.declared.item.Claim.{Claim};
+ghost use Rattle.eos_machine.specs.LogIndexes.{IsConfig, application_count, offsets_index};
+ghost use Rattle.eos_machine.specs.Formed.{Names};
+ghost use Rattle.eos_machine.specs.Deliveries.{deliver, deliver_output, deliver_offset, deliver_end, deliver_marker};
+ghost use Rattle.eos_machine.specs.Switching.{none};
+ghost use Rattle.eos_broker.specs.Named.{IsNamed};
+ghost use Rattle.eos_cluster.specs.Breaches.{is_marker, kept_by, altered, log_of};
+ghost use Rattle.eos_cluster.specs.steps.Refusing.{IsRefusal, refusal_of};
+ghost use Rattle.eos_cluster.specs.steps.Taken.{IsData};
+
+use crate::accept::Request;
+use crate::deliver_end::end_refusal;
+use crate::deliver_marker::{EndMarker, is_marker_fenced};
+use crate::deliver_offset::judge_offset;
+use crate::deliver_output::judge_output;
+use eos_batch::Kind;
+use eos_broker::Store;
+use eos_broker::log_indexes::{OFFSETS_INDEX, is_odd_output, written_index};
+use eos_machine::{Config, Message, Reply, Switch, Switches};
+
+// ---- how a cluster that keeps its rules refuses a message
+
+fn refusal_of(judged: Result<bool, Reply>) -> Option<Reply>
+    ensures { result ≡ refusal_of judged }
+{
+    match judged {
+        Ok(_) => None,
+        Err(refusal) => Some(refusal),
+    }
+}
+
+fn output_refusal(store: &Store, request: Request, sequence: u32) -> Option<Reply>
+    requires { request.application < application_count store.now.config }
+    ensures { (x : Option Claim) (v : ℕ)
+        → IsRefusal result (deliver_output none store.now.config store.now.world request.number request.application request.epoch request.place sequence x v).1 }
+{
+    refusal_of(judge_output(store, Switches::none(), request, sequence))
+}
+
+fn offset_refusal(store: &Store, request: Request, generation: u64) -> Option<Reply>
+    requires application { request.application < application_count store.now.config }
+    requires place { request.place ≡ offsets_index }
+    ensures { (q : ℕ) (v : Option ℕ)
+        → IsRefusal result (deliver_offset none store.now.config store.now.world request.number request.application request.epoch generation q v).1 }
+{
+    refusal_of(judge_offset(store, Switches::none(), request, generation))
+}
+
+fn ending_refusal(store: &Store, application: usize, epoch: u16, kind: Kind) -> Option<Reply>
+    ensures { IsRefusal result (deliver_end none store.now.config store.now.world application epoch kind).1 }
+{
+    end_refusal(store, application, epoch, kind)
+}
+
+fn marker_refusal(store: &Store, marker: EndMarker) -> Option<Reply>
+    requires { marker.application < application_count store.now.config }
+    ensures { IsRefusal result (deliver_marker none store.now.config store.now.world marker.application marker.epoch marker.kind marker.place).1 }
+{
+    if is_marker_fenced(store, Switches::none(), marker) {
+        return Some(Reply::Fenced);
+    }
+    None
+}
+
+fn data_refusal(store: &Store, number: u64, message: &Message) -> Option<Reply>
+    requires data { IsData message.now }
+    requires named { Names store.now.config message.now }
+    ensures { IsRefusal result (deliver none store.now.config store.now.world number (Some message.now)).1 }
+{
+    match message {
+        Message::Output {
+            application,
+            epoch,
+            partition,
+            sequence,
+            ..
+        } => {
+            let place = written_index(store.config(), *application, *partition);
+            let request = Request::new(number, *application, *epoch, place);
+            output_refusal(store, request, *sequence)
+        }
+        Message::Offset {
+            application,
+            epoch,
+            generation,
+            ..
+        } => {
+            let request = Request::new(number, *application, *epoch, OFFSETS_INDEX);
+            offset_refusal(store, request, *generation)
+        }
+        Message::End { .. } | Message::Marker { .. } => unreachable!(),
+    }
+}
+
+fn message_refusal(store: &Store, number: u64, message: &Message) -> Option<Reply>
+    requires named { Names store.now.config message.now }
+    ensures { IsRefusal result (deliver none store.now.config store.now.world number (Some message.now)).1 }
+{
+    match message {
+        Message::Output { .. } | Message::Offset { .. } => data_refusal(store, number, message),
+        Message::End {
+            application,
+            epoch,
+            kind,
+        } => ending_refusal(store, *application, *epoch, *kind),
+        Message::Marker {
+            application,
+            epoch,
+            kind,
+            place,
+        } => {
+            let marker = EndMarker {
+                application: *application,
+                epoch: *epoch,
+                kind: *kind,
+                place: *place,
+            };
+            marker_refusal(store, marker)
+        }
+    }
+}
+
+/// Why the message of this number is refused, if it is.
+pub(crate) fn refusal(store: &Store, number: u64) -> Option<Reply>
+    requires { IsNamed store.now.config (slice_get store.now.world.messages number) }
+    ensures { IsRefusal result (deliver none store.now.config store.now.world number (slice_get store.now.world.messages number)).1 }
+{
+    match store.message(number) {
+        Some(message) => message_refusal(store, number, message),
+        None => Some(Reply::Unknown),
+    }
+}
+
+// ---- which rules that keeps
+
+fn is_marker(message: &Message) -> bool
+    ensures { result ≡ is_marker (Some message.now) }
+{
+    match message {
+        Message::Marker { .. } => true,
+        Message::Output { .. } | Message::Offset { .. } | Message::End { .. } => false,
+    }
+}
+
+/// The rule that an answer to an end marker, or to another message, keeps.
+fn kept_by(marker: bool, reply: Reply) -> Switches
+    ensures { result ≡ kept_by marker reply }
+{
+    match reply {
+        Reply::Fenced => {
+            if marker {
+                return Switches::only(Switch::NoBump);
+            }
+            Switches::only(Switch::NoFence)
+        }
+        Reply::OutOfOrder | Reply::DuplicateKept => Switches::only(Switch::KeepDuplicates),
+        Reply::StaleGeneration => Switches::only(Switch::IgnoreGeneration),
+        Reply::Done(_)
+        | Reply::WrongState
+        | Reply::Busy
+        | Reply::EpochsSpent
+        | Reply::Unknown
+        | Reply::OutOfMemory
+        | Reply::Full => Switches::none(),
+    }
+}
+
+/// The rule that a refusal keeps, if there is one.
+#[tactic(auto, using(crate::proofs::Refused::taken_keeps, crate::proofs::Refused::refusal_keeps))]
+fn kept_if(marker: bool, refusal: Option<Reply>) -> Switches
+    ensures { (r : Reply) → IsRefusal refusal r → result ≡ kept_by marker r }
+{
+    match refusal {
+        None => Switches::none(),
+        Some(reply) => kept_by(marker, reply),
+    }
+}
+
+/// With those by which these switches change how a message is written.
+fn altered(config: Config, switches: Switches, message: &Message, kept: Switches) -> Switches
+    requires config { IsConfig config }
+    requires named { Names config message.now }
+    ensures { result ≡ altered switches config (Some message.now) kept }
+{
+    match message {
+        Message::Output {
+            application,
+            partition,
+            ..
+        } => Switches {
+            hide_listing: switches.hide_listing
+                && is_odd_output(config, written_index(config, *application, *partition)),
+            ..kept
+        },
+        Message::Offset { .. } | Message::End { .. } => kept,
+        Message::Marker { place, .. } => Switches {
+            no_bump: kept.no_bump || (switches.no_bump && !switches.lose_marker),
+            lose_marker: switches.lose_marker,
+            swap_marker: switches.swap_marker
+                && (is_odd_output(config, *place) && !switches.lose_marker),
+            ..kept
+        },
+    }
+}
+
+/// The rules that are broken where the message of this number is taken, which a cluster that keeps its rules refuses so.
+pub(crate) fn broken(
+    store: &Store,
+    switches: Switches,
+    refusal: Option<Reply>,
+    number: u64,
+) -> Switches
+    requires config { IsConfig store.now.config }
+    requires named { IsNamed store.now.config (slice_get store.now.world.messages number) }
+    ensures { (r : Reply) → IsRefusal refusal r
+        → result ≡ altered switches store.now.config (slice_get store.now.world.messages number) (kept_by (is_marker (slice_get store.now.world.messages number)) r) }
+{
+    match store.message(number) {
+        Some(message) => {
+            let kept = kept_if(is_marker(message), refusal);
+            altered(store.config(), switches, message, kept)
+        }
+        None => kept_if(false, refusal),
+    }
+}
+
+// ---- where it stands
+
+fn log_of(config: Config, message: &Message) -> usize
+    requires config { IsConfig config }
+    requires named { Names config message.now }
+    ensures { result ≡ log_of config (Some message.now) }
+{
+    match message {
+        Message::Output {
+            application,
+            partition,
+            ..
+        } => written_index(config, *application, *partition),
+        Message::Offset { .. } => OFFSETS_INDEX,
+        Message::End { .. } => 0,
+        Message::Marker { place, .. } => *place,
+    }
+}
+
+/// In which log the message of this number is to stand.
+pub(crate) fn log_of_message(store: &Store, number: u64) -> usize
+    requires config { IsConfig store.now.config }
+    requires named { IsNamed store.now.config (slice_get store.now.world.messages number) }
+    ensures { result ≡ log_of store.now.config (slice_get store.now.world.messages number) }
+{
+    match store.message(number) {
+        Some(message) => log_of(store.config(), message),
+        None => 0,
+    }
+}
