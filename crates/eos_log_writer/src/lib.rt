@@ -9,5 +9,5 @@ mod segments;
 mod values;
 mod writer;
 
-pub use log_names::log_count;
+pub use log_names::{log_count, number_of, topic_of};
 pub use segments::{LogFault, add_log, end_of, groups_of};
