@@ -179,12 +179,15 @@ _eoscheck() {
     --history)
       mapfile -t COMPREPLY < <(compgen -f -- "$word")
       return ;;
+    --labels)
+      mapfile -t COMPREPLY < <(compgen -f -- "$word")
+      return ;;
     --schedule)
       mapfile -t COMPREPLY < <(compgen -f -- "$word")
       return ;;
     esac
     case $word in
-    -*) mapfile -t COMPREPLY < <(compgen -W '--seed --events --applications --inputs --outputs --transaction-logs --segment-records --batch-records --chain --lose --repeat --abandon --members --restart-broker --restart-coordinator --abort --switch --switch-at --no-tail --mishap --history --schedule -h --help' -- "$word") ;;
+    -*) mapfile -t COMPREPLY < <(compgen -W '--seed --events --applications --inputs --outputs --transaction-logs --segment-records --batch-records --chain --lose --repeat --abandon --members --restart-broker --restart-coordinator --abort --switch --switch-at --no-tail --mishap --history --labels --schedule -h --help' -- "$word") ;;
     *) mapfile -t COMPREPLY < <(compgen -d -- "$word") ;;
     esac ;;
   esac

@@ -20,6 +20,7 @@ pub mod CoveredBytes
 pub mod ItemTexts
 pub mod LeftEvidence
 mod OneEvidence
+mod Labelled
 mod LeftFolders
 mod MadeRuns
 mod ScheduleTexts

@@ -1,5 +1,5 @@
 -- What a run made, put together.
-use Rattle.std.proofs.Common.{◌≡◌, Bool, false, List, ℕ, [], Option, IfSome}
+use Rattle.std.proofs.Common.{◌≡◌, false, List, [], IfSome}
 use Rattle.std.specs.List.{AllZip}
 use Rattle.eos_evidence.specs.Evidence.{EvidenceParts}
 use Rattle.eos_machine.specs.declared.config.Config.{Config}
@@ -11,30 +11,32 @@ use Rattle.eos_history_lines.specs.declared.line.Head.{Head}
 use Rattle.eos_history_lines.specs.declared.schedule.Schedule.{Schedule}
 use Rattle.eos_simulate.specs.Histories.{IsLeftBy, HasBroken, IsAsSaid, acts_of, acts_said, FitsTotals}
 use Rattle.eos_simulate.specs.HistoryTexts.{IsHistoryIf}
+use Rattle.eos_simulate.specs.LabelTexts.{AreLabelsIf}
+use Rattle.eos_simulate.specs.declared.made.WantedTexts.{WantedTexts}
 use Rattle.eos_simulate.specs.Schedules.{HasRightLogs, HasNoFaultInLogs}
-use Rattle.eos_simulate.specs.Folders.{IsOfScript, IsOfLines}
+use Rattle.eos_simulate.specs.Folders.{Texts, IsOfScript, IsOfLines}
 
-pub of_script : (c : Config) (u : Switches) (h : Head) (keeps : Bool) (before deeds : List Deed) (e : EvidenceParts) (text : Option (List ℕ)) → before ≡ [] → (before ≡ [] → IsLeftBy c deeds e)
-    → HasBroken u deeds → (any_on u ≡ false → IsOfSchedule e) → (any_on u ≡ false → HasRightLogs e) → (any_on u ≡ false → HasNoFaultInLogs e) → IsHistoryIf keeps h deeds text
-    → IsOfScript c u h keeps e text
-of_script c u h keeps before deeds e text none left broken schedule right faultless history = record {
+pub of_script : (c : Config) (u : Switches) (h : Head) (keeps : WantedTexts) (before deeds : List Deed) (e : EvidenceParts) (texts : Texts) → before ≡ [] → (before ≡ [] → IsLeftBy c deeds e)
+    → HasBroken u deeds → (any_on u ≡ false → IsOfSchedule e) → (any_on u ≡ false → HasRightLogs e) → (any_on u ≡ false → HasNoFaultInLogs e) → IsHistoryIf keeps.history h deeds texts.0
+    → AreLabelsIf keeps.labels c deeds texts.1 → IsOfScript c u h keeps e texts
+of_script c u h keeps before deeds e texts none left broken schedule right faultless history labels = record {
   deeds = deeds;
   left = left none;
   broken = broken;
   schedule = schedule;
   right = right;
   faultless = faultless;
-  history = history;
+  texts_are = (history, labels);
 }
 
-pub of_lines : (s : Schedule) (keeps : Bool) (before deeds : List Deed) (e : EvidenceParts) (text : Option (List ℕ)) → before ≡ [] → (before ≡ [] → IsLeftBy s.head.config deeds e)
-    → (before ≡ [] → acts_of deeds ≡ acts_said s.lines) → (before ≡ [] → AllZip IsAsSaid deeds s.lines) → (before ≡ [] → IfSome s.tail (FitsTotals deeds)) → IsHistoryIf keeps s.head deeds text
-    → IsOfLines s keeps e text
-of_lines s keeps before deeds e text none left done answered totals history = record {
+pub of_lines : (s : Schedule) (keeps : WantedTexts) (before deeds : List Deed) (e : EvidenceParts) (texts : Texts) → before ≡ [] → (before ≡ [] → IsLeftBy s.head.config deeds e)
+    → (before ≡ [] → acts_of deeds ≡ acts_said s.lines) → (before ≡ [] → AllZip IsAsSaid deeds s.lines) → (before ≡ [] → IfSome s.tail (FitsTotals deeds)) → IsHistoryIf keeps.history s.head deeds texts.0
+    → AreLabelsIf keeps.labels s.head.config deeds texts.1 → IsOfLines s keeps e texts
+of_lines s keeps before deeds e texts none left done answered totals history labels = record {
   deeds = deeds;
   left = left none;
   done = done none;
   answered = answered none;
   totals = totals none;
-  history = history;
+  texts_are = (history, labels);
 }

@@ -1,5 +1,6 @@
--- What `simulate` leaves on a disk: the evidence that its run made, as the files of a new folder and no others, and the file of its history.
-use Rattle.std.specs.Prelude.{◌≡◌, ⊤, ℕ, Bool, true, false, List, codes, bytes_eq, Option, None, Some, IfSome, is_some}
+-- What `simulate` leaves on a disk: the evidence that its run made, as the files of a new folder and no others, and the files of its history
+-- and of its labels.
+use Rattle.std.specs.Prelude.{◌≡◌, ◌≢◌, ⊤, ℕ, Bool, true, false, List, codes, bytes_eq, Option, None, Some, IfSome, is_some}
 use Rattle.std.specs.Borrow.{Bor}
 use Rattle.std.specs.Io.KnownBytes.{Consumes, IsAtEnd}
 use Rattle.std.specs.List.{AllZip}
@@ -24,6 +25,8 @@ use Rattle.eos_history_lines.specs.declared.schedule.Schedule.{Schedule}
 use Rattle.eos_words.specs.declared.request.Simulation.{Simulation}
 use Rattle.eos_simulate.specs.Histories.{IsLeftBy, HasBroken, IsAsSaid, acts_of, acts_said, FitsTotals}
 use Rattle.eos_simulate.specs.HistoryTexts.{IsHistoryIf}
+use Rattle.eos_simulate.specs.LabelTexts.{AreLabelsIf}
+use Rattle.eos_simulate.specs.declared.made.WantedTexts.{WantedTexts}
 use Rattle.eos_simulate.specs.Schedules.{HasRightLogs, HasNoFaultInLogs}
 use Rattle.eos_simulate.specs.Settings.{config_said, switches_said}
 
@@ -32,28 +35,40 @@ use Rattle.eos_simulate.specs.Settings.{config_said, switches_said}
 abbrev pub head_said : Simulation → Head
 head_said words = record { config = config_said words.sizes; switches = switches_said words.switches.items; seed = words.seed; words = words.events }
 
--- a script's run, in a cluster of these sizes that breaks these rules, made this evidence, and this history if one is wanted
-pub record IsOfScript (c : Config) (u : Switches) (h : Head) (keeps : Bool) (e : EvidenceParts) (text : Option (List ℕ)) : Type 0 where
+-- the texts of a history and of labels
+abbrev pub Texts : Type 0
+Texts = Option (List ℕ) × Option (List ℕ)
+
+-- which of them are wanted
+abbrev pub wanted_by : Simulation → WantedTexts
+wanted_by words = record { history = is_some words.history; labels = is_some words.labels }
+
+-- the texts of what was done are those that are wanted
+abbrev pub AreTextsOf : WantedTexts → Head → Config → List Deed → Texts → Type 0
+AreTextsOf keeps h c deeds texts = IsHistoryIf keeps.history h deeds texts.0 × AreLabelsIf keeps.labels c deeds texts.1
+
+-- a script's run, in a cluster of these sizes that breaks these rules, made this evidence, and these texts
+pub record IsOfScript (c : Config) (u : Switches) (h : Head) (keeps : WantedTexts) (e : EvidenceParts) (texts : Texts) : Type 0 where
   pub deeds : List Deed
   pub left : IsLeftBy c deeds e
   pub broken : HasBroken u deeds
   pub schedule : any_on u ≡ false → IsOfSchedule e
   pub right : any_on u ≡ false → HasRightLogs e
   pub faultless : any_on u ≡ false → HasNoFaultInLogs e
-  pub history : IsHistoryIf keeps h deeds text
+  pub texts_are : AreTextsOf keeps h c deeds texts
 
 -- the run that these words ask for did
-abbrev pub IsOfWords : Simulation → Bool → EvidenceParts → Option (List ℕ) → Type 0
-IsOfWords words keeps e text = IsOfScript (config_said words.sizes) (switches_said words.switches.items) (head_said words) keeps e text
+abbrev pub IsOfWords : Simulation → EvidenceParts → Texts → Type 0
+IsOfWords words e texts = IsOfScript (config_said words.sizes) (switches_said words.switches.items) (head_said words) (wanted_by words) e texts
 
 -- a run of this schedule did
-pub record IsOfLines (s : Schedule) (keeps : Bool) (e : EvidenceParts) (text : Option (List ℕ)) : Type 0 where
+pub record IsOfLines (s : Schedule) (keeps : WantedTexts) (e : EvidenceParts) (texts : Texts) : Type 0 where
   pub deeds : List Deed
   pub left : IsLeftBy s.head.config deeds e
   pub done : acts_of deeds ≡ acts_said s.lines
   pub answered : AllZip IsAsSaid deeds s.lines
   pub totals : IfSome s.tail (FitsTotals deeds)
-  pub history : IsHistoryIf keeps s.head deeds text
+  pub texts_are : AreTextsOf keeps s.head s.head.config deeds texts
 
 -- the text of the file of this path; of `-`, which is standard input, all that was left of it
 abbrev pub IsTextOf : Bool → (List ℕ → Entry) → List ℕ → Option (List ℕ) → Option (List ℕ) → List ℕ → Type 0
@@ -70,16 +85,16 @@ pub record IsScheduleAt (holds : List ℕ → Entry) (path : List ℕ) (left res
   pub says : IsSchedule (lines_of text) s
 
 -- the run that the words ask for, by a schedule or without one
-abbrev pub IsRunBy : Option (Bor (List ℕ)) → Simulation → Bool → (List ℕ → Entry) → Option (List ℕ) → Option (List ℕ) → EvidenceParts → Option (List ℕ) → Type 0
-IsRunBy None words keeps holds left rest e text = IsOfWords words keeps e text
-IsRunBy (Some path) words keeps holds left rest e text = (s : Schedule) × IsScheduleAt holds path.now left rest s × IsOfLines s keeps e text
+abbrev pub IsRunBy : Option (Bor (List ℕ)) → Simulation → (List ℕ → Entry) → Option (List ℕ) → Option (List ℕ) → EvidenceParts → Texts → Type 0
+IsRunBy None words holds left rest e texts = IsOfWords words e texts
+IsRunBy (Some path) words holds left rest e texts = (s : Schedule) × IsScheduleAt holds path.now left rest s × IsOfLines s (wanted_by words) e texts
 
-abbrev pub IsRun : Simulation → (List ℕ → Entry) → Option (List ℕ) → Option (List ℕ) → EvidenceParts → Option (List ℕ) → Type 0
-IsRun words holds left rest e text = IsRunBy words.schedule words (is_some words.history) holds left rest e text
+abbrev pub IsRun : Simulation → (List ℕ → Entry) → Option (List ℕ) → Option (List ℕ) → EvidenceParts → Texts → Type 0
+IsRun words holds left rest e texts = IsRunBy words.schedule words holds left rest e texts
 
 -- ---- the disk
 
--- the history's file is begun, if one is wanted
+-- a file is begun, if one is wanted
 abbrev pub IsBegunIf : Option (Bor (List ℕ)) → Option (List ℕ) → (List ℕ → Entry) → (List ℕ → Entry) → Type 0
 IsBegunIf None None old new = new ≡ old
 IsBegunIf None (Some file) old new = ⊥
@@ -91,38 +106,52 @@ abbrev pub IsEndedIf : Option (List ℕ) → Option (List ℕ) → (List ℕ →
 IsEndedIf None text old new = new ≡ old
 IsEndedIf (Some file) text old new = IsLeftAs old file text new
 
--- one after the other: the history's file is begun, the run reads its schedule, the folder is made, the history is written, and then the evidence
+-- one after the other: the files of the history and of the labels are begun, the run reads its schedule, the folder is made, the labels and
+-- the history are written, and then the evidence
 pub record IsLeft (words : Simulation) (left rest : Option (List ℕ)) (old : List ℕ → Entry) (e : EvidenceParts) (new : List ℕ → Entry) : Type 0 where
   pub begun : List ℕ → Entry
+  pub ready : List ℕ → Entry
   pub made : List ℕ → Entry
+  pub labelled : List ℕ → Entry
   pub ended : List ℕ → Entry
-  pub file : Option (List ℕ)
-  pub text : Option (List ℕ)
-  pub begins : IsBegunIf words.history file old begun
-  pub run : IsRun words begun left rest e text
-  pub folder : IsMade begun words.folder.now made
-  pub ends : IsEndedIf file text made ended
+  pub files : Texts
+  pub texts : Texts
+  pub begins : IsBegunIf words.history files.0 old begun
+  pub begins_labels : IsBegunIf words.labels files.1 begun ready
+  pub run : IsRun words ready left rest e texts
+  pub folder : IsMade ready words.folder.now made
+  pub ends_labels : IsEndedIf files.1 texts.1 made labelled
+  pub ends : IsEndedIf files.0 texts.0 labelled ended
   pub written : IsEvidenceWritten ended words.folder.now e new
 
 abbrev pub IsBelow : List ℕ → List ℕ → Type 0
 IsBelow folder path = (name : List ℕ) × (path ≡ below folder name)
 
--- neither the history nor what is written beside it first lies below the folder
+-- neither this file nor what is written beside it first lies below the folder
 abbrev pub IsApartFrom : List ℕ → Option (Bor (List ℕ)) → Type 0
 IsApartFrom folder None = ⊤
 IsApartFrom folder (Some path) = (IsBelow folder path.now → ⊥) × (IsBelow folder (beside path.now) → ⊥)
 
--- the history stands at its path
+-- neither of this file nor of what is written beside it first the other file has the path
+abbrev pub IsOther : Option (Bor (List ℕ)) → Option (Bor (List ℕ)) → Type 0
+IsOther None other = ⊤
+IsOther (Some path) None = ⊤
+IsOther (Some path) (Some other) = (other.now ≢ path.now) × (other.now ≢ beside path.now)
+
+abbrev pub AreApart : Simulation → Type 0
+AreApart words = IsApartFrom words.folder.now words.history × IsApartFrom words.folder.now words.labels × IsOther words.history words.labels
+
+-- a text stands at its path
 abbrev pub IsThereIf : Option (Bor (List ℕ)) → Option (List ℕ) → (List ℕ → Entry) → Type 0
 IsThereIf None text new = ⊤
 IsThereIf (Some path) None new = ⊥
 IsThereIf (Some path) (Some text) new = HasBytes (new path.now) text
 
 -- this evidence was left. Where nothing stood below the folder, just its files do now, from which it is read back if the disk is known;
--- and the history stands at its path
+-- and the history and the labels stand at their paths
 pub record IsSimulated (words : Simulation) (left rest : Option (List ℕ)) (old new : List ℕ → Entry) (e : EvidenceParts) : Type 0 where
   pub is : IsLeft words left rest old e new
-  pub just : IsEmptyAt old words.folder.now → IsApartFrom words.folder.now words.history → HoldsJust new words.folder.now e
-  pub back : IsEmptyAt old words.folder.now → IsApartFrom words.folder.now words.history → AreKnown new words.folder.now → HasListings new
-      → IsReadWhole new words.folder.now e
-  pub kept : IsApartFrom words.folder.now words.history → IsThereIf words.history is.text new
+  pub just : IsEmptyAt old words.folder.now → AreApart words → HoldsJust new words.folder.now e
+  pub back : IsEmptyAt old words.folder.now → AreApart words → AreKnown new words.folder.now → HasListings new → IsReadWhole new words.folder.now e
+  pub kept : AreApart words → IsThereIf words.history is.texts.0 new
+  pub labelled : AreApart words → IsThereIf words.labels is.texts.1 new

@@ -3,6 +3,8 @@ pub mod Settings
 pub mod Histories
 pub mod Replays
 pub mod HistoryTexts
+pub mod Labels
+pub mod LabelTexts
 pub mod Folders
 pub mod steps
 pub mod Schedules

@@ -10,8 +10,8 @@ use eos_words::Simulation;
 use std::alloc::AllocError;
 use std::io;
 
-/// Writes what a simulated cluster leaves as a new folder, and its history to a new file, if that is asked for; and then on standard
-/// output that it did. Gives the exit status.
+/// Writes what a simulated cluster leaves as a new folder, and its history and its labels to new files, if that is asked for; and then on
+/// standard output that it did. Gives the exit status.
 #[inline(never)]
 pub fn simulate_folder(rt: &HostRuntime, words: &Simulation<'_>) -> u8 {
     let mut disk = HostDisk { rt };
@@ -33,6 +33,7 @@ fn end_unleft(rt: &HostRuntime, words: &Simulation<'_>, why: Unleft) -> u8 {
     let schedule = words.schedule.unwrap_or(STANDARD);
     match why {
         Unleft::History(fault) => end_unchanged(rt, words.history.unwrap_or(STANDARD), fault),
+        Unleft::Labels(fault) => end_unchanged(rt, words.labels.unwrap_or(STANDARD), fault),
         Unleft::Unread(fault) => end_unread(rt, Subject::Only, &fault),
         Unleft::Refused(fault) => end_refused(rt, schedule, fault),
         Unleft::Unreplayed(fault, lines) => end_unreplayed(rt, schedule, lines, fault),

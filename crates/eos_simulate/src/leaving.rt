@@ -1,7 +1,7 @@
-//! `simulate` on a disk: the folder of a simulated cluster's evidence and the file of its history, both whole, or neither; and then the
-//! printed line.
+//! `simulate` on a disk: the folder of a simulated cluster's evidence and the files of its history and its labels, all whole, or none; and
+//! then the printed line.
 
-ghost use Rattle.std.specs.Prelude.{◌≡◌, ◌≢◌, Err, IfOk, IfErr, OnOk, is_some, option_map, string_bytes};
+ghost use Rattle.std.specs.Prelude.{◌≡◌, ◌≢◌, Err, IfOk, IfErr, OnOk, option_map, string_bytes};
 ghost use Rattle.std.specs.Io.KnownBytes.{Appends, Keeps};
 ghost use Rattle.eos_disk.specs.Changes.{IsMade};
 ghost use Rattle.eos_disk.specs.Reading.{IsReadWhole};
@@ -10,12 +10,12 @@ ghost use Rattle.eos_disk.specs.Writing.{IsEvidenceWritten};
 ghost use Rattle.eos_disk.specs.Written.{IsEmptyAt, HasListings};
 ghost use Rattle.eos_evidence.specs.Evidence.{EvidenceParts};
 ghost use Rattle.eos_text.specs.Writing.{WritesFront};
-ghost use Rattle.eos_simulate.specs.Folders.{IsBegunIf, IsEndedIf, IsOfWords, IsOfLines, IsRun, IsSimulated};
+ghost use Rattle.eos_simulate.specs.Folders.{IsBegunIf, IsEndedIf, IsOfWords, IsOfLines, IsRun, IsSimulated, wanted_by};
 ghost use Rattle.eos_simulate.specs.Simulated.{wrote_line};
 ghost use Rattle.eos_simulate.specs.declared.leaving.Unsimulated.TheVariants.{CannotPrint};
 
 use crate::course::Course;
-use crate::made::{Made, by_lines, by_script};
+use crate::made::{Made, WantedTexts, by_lines, by_script};
 use crate::making::{SimulationFault, told_to};
 use crate::replaying::ReplayFault;
 use crate::schedule_file::{Unread, read_schedule};
@@ -36,6 +36,8 @@ use std::io::{Read, Write};
 pub enum Unleft {
     /// The history's file can't be begun or written.
     History(ChangeFault),
+    /// The labels' file can't be.
+    Labels(ChangeFault),
     /// The schedule can't be read.
     Unread(FolderFault),
     /// A line of the schedule is refused.
@@ -86,6 +88,16 @@ fn begin_folder<D: DiskMut>(
     }
 }
 
+/// Which texts the words want.
+fn keeps_of(words: &Simulation<'_>) -> WantedTexts
+    ensures { result ≡ wanted_by words.now }
+{
+    WantedTexts {
+        history: words.history.is_some(),
+        labels: words.labels.is_some(),
+    }
+}
+
 /// Makes the folder, and runs what the words say. Words that don't fit leave no folder.
 #[tactic(auto, using(crate::proofs::LeftFolders::of_words))]
 fn make_by_words<D: DiskMut>(
@@ -94,7 +106,7 @@ fn make_by_words<D: DiskMut>(
     words: &Simulation<'_>,
     written: &mut Written,
 ) -> Result<Made, Unleft>
-    ensures run { IfOk result (λ made. IsOfWords words.now (is_some words.now.history) made.evidence (option_map string_bytes made.history)) }
+    ensures run { IfOk result (λ made. IsOfWords words.now made.evidence (option_map string_bytes made.history, option_map string_bytes made.labels)) }
     ensures folder { OnOk result (IsMade (D.holds disk.old) words.now.folder.now (D.holds disk.new)) }
 {
     let course = match Course::of_words(alloc, words) {
@@ -104,13 +116,14 @@ fn make_by_words<D: DiskMut>(
     if let Err(why) = begin_folder(alloc, disk, words.folder, written) {
         return Err(why);
     }
-    match by_script(alloc, &course, words.history.is_some()) {
+    match by_script(alloc, &course, keeps_of(words)) {
         Ok(made) => Ok(made),
         Err(fault) => Err(Unleft::Unmade(fault)),
     }
 }
 
 /// Makes the folder, and runs what a schedule says.
+#[tactic(auto, using(crate::proofs::LeftFolders::of_lines))]
 fn make_by_lines<D: DiskMut>(
     alloc: Global,
     disk: &mut D,
@@ -118,13 +131,13 @@ fn make_by_lines<D: DiskMut>(
     schedule: &Schedule,
     written: &mut Written,
 ) -> Result<Made, Unleft>
-    ensures run { IfOk result (λ made. IsOfLines schedule.now (is_some words.now.history) made.evidence (option_map string_bytes made.history)) }
+    ensures run { IfOk result (λ made. IsOfLines schedule.now (wanted_by words.now) made.evidence (option_map string_bytes made.history, option_map string_bytes made.labels)) }
     ensures folder { OnOk result (IsMade (D.holds disk.old) words.now.folder.now (D.holds disk.new)) }
 {
     if let Err(why) = begin_folder(alloc, disk, words.folder, written) {
         return Err(why);
     }
-    match by_lines(alloc, schedule, words.history.is_some()) {
+    match by_lines(alloc, schedule, keeps_of(words)) {
         Ok(made) => Ok(made),
         Err(fault) => Err(Unleft::Unreplayed(fault, schedule.lines.len() as u64)),
     }
@@ -138,7 +151,7 @@ fn make<D: DiskMut, R: Read>(
     input: &mut R,
     written: &mut Written,
 ) -> Result<Made, Unleft>
-    ensures run { IfOk result (λ made. IsRun words.now (D.holds disk.old) (R.remaining input.old) (R.remaining input.new) made.evidence (option_map string_bytes made.history)) }
+    ensures run { IfOk result (λ made. IsRun words.now (D.holds disk.old) (R.remaining input.old) (R.remaining input.new) made.evidence (option_map string_bytes made.history, option_map string_bytes made.labels)) }
     ensures folder { OnOk result (IsMade (D.holds disk.old) words.now.folder.now (D.holds disk.new)) }
 {
     let Some(path) = words.schedule else {
@@ -152,7 +165,8 @@ fn make<D: DiskMut, R: Read>(
 
 // ---- the history and the evidence
 
-/// Begins the file of the history, if one is wanted. A path names no file where it is empty or ends in a slash, whatever stands there.
+/// Begins the file of the history, or of the labels, if one is wanted. A path names no file where it is empty or ends in a slash, whatever
+/// stands there.
 fn begun<D: DiskMut>(
     alloc: Global,
     disk: &mut D,
@@ -190,8 +204,8 @@ fn ended<D: DiskMut>(
     }
 }
 
-/// Takes the history away that was written.
-fn take_history<D: DiskMut>(alloc: Global, disk: &mut D, path: Option<&str>) {
+/// Takes a file away that was written.
+fn take_away<D: DiskMut>(alloc: Global, disk: &mut D, path: Option<&str>) {
     if let Some(path) = path {
         let _ = disk.remove(alloc, path);
     }
@@ -204,7 +218,7 @@ fn dropped<D: DiskMut>(alloc: Global, disk: &mut D, file: Option<NewFile<D::Held
     }
 }
 
-/// Writes the evidence into its folder. Where it can't be written, the history that was goes too.
+/// Writes the evidence into its folder. Where it can't be written, the history and the labels that were go too.
 fn write_last<D: DiskMut>(
     alloc: Global,
     disk: &mut D,
@@ -219,7 +233,8 @@ fn write_last<D: DiskMut>(
     match write_whole(alloc, disk, written, words.folder, evidence) {
         Ok(()) => Ok(()),
         Err(fault) => {
-            take_history(alloc, disk, words.history);
+            take_away(alloc, disk, words.history);
+            take_away(alloc, disk, words.labels);
             Err(Unleft::Unwritten(fault))
         }
     }
@@ -242,14 +257,31 @@ fn leave<D: DiskMut, R: Read>(
         Ok(file) => file,
         Err(fault) => return Err(Unleft::History(fault)),
     };
-    let Made { evidence, history } = match make(alloc, disk, words, input, written) {
+    let other = match begun(alloc, disk, words.labels) {
+        Ok(other) => other,
+        Err(fault) => {
+            dropped(alloc, disk, file);
+            return Err(Unleft::Labels(fault));
+        }
+    };
+    let Made {
+        evidence,
+        history,
+        labels,
+    } = match make(alloc, disk, words, input, written) {
         Ok(made) => made,
         Err(why) => {
+            dropped(alloc, disk, other);
             dropped(alloc, disk, file);
             return Err(why);
         }
     };
+    if let Err(fault) = ended(alloc, disk, other, labels) {
+        dropped(alloc, disk, file);
+        return Err(Unleft::Labels(fault));
+    }
     if let Err(fault) = ended(alloc, disk, file, history) {
+        take_away(alloc, disk, words.labels);
         return Err(Unleft::History(fault));
     }
     match write_last(alloc, disk, words, &evidence, written) {
@@ -277,14 +309,14 @@ fn tell<W: Write>(alloc: Global, evidence: &Evidence, writer: &mut W) -> Result<
     }
 }
 
-/// Runs a simulated cluster as the words say, leaves its evidence as a new folder and its history, if one is wanted, as a new file, and
-/// prints how many partitions the evidence has. A schedule is read from its file, or from the input where that is named `-`.
+/// Runs a simulated cluster as the words say, leaves its evidence as a new folder, and its history and its labels as new files, if they are
+/// wanted, and prints how many partitions the evidence has. A schedule is read from its file, or from the input where that is named `-`.
 ///
-/// The file of the history is begun before the schedule is read, and both before the folder is made. Where nothing stood below the folder,
-/// and the history doesn't lie there, just the evidence's files do then, and from a disk that is known `eos_disk::read_folder` reads it back.
+/// These files are begun before the schedule is read, and the folder is made after that. Where nothing stood below the folder,
+/// and the files don't lie there, just the evidence's files do then, and from a disk that is known `eos_disk::read_folder` reads it back.
 ///
 /// # Errors
-/// Where the line can't be printed, or no memory is left for it, the folder and the history stay, whole. Else what was written was taken away,
+/// Where the line can't be printed, or no memory is left for it, the folder, the history and the labels stay, whole. Else what was written was taken away,
 /// as far as the disk let it go. But for `CannotPrint` nothing was printed.
 pub fn simulate_to<D: DiskMut, R: Read, W: Write>(
     alloc: Global,

@@ -1,4 +1,4 @@
-//! What a run makes: the evidence, and the text of its history.
+//! What a run makes: the evidence, and the texts of its history and of its labels.
 
 ghost use Rattle.std.specs.Prelude.{IfOk, option_map, string_bytes};
 ghost use Rattle.eos_simulate.specs.Folders.{IsOfScript, IsOfLines};
@@ -8,6 +8,7 @@ ghost use Rattle.eos_simulate.specs.steps.Heads.{head_of};
 use crate::course::Course;
 use crate::history_file::history_text;
 use crate::kept::simulate;
+use crate::label_lines::labels_if;
 use crate::making::SimulationFault;
 use crate::replaying::{ReplayFault, replay};
 use eos_drive::History;
@@ -15,11 +16,19 @@ use eos_evidence::Evidence;
 use eos_history_lines::{Head, Schedule};
 use std::alloc::{AllocError, Global};
 
-/// What a cluster left: the evidence, and the text of its history, if that was asked for.
+/// What a cluster left: the evidence, and the texts of its history and of its labels, if these were asked for.
 #[derive(Drop)]
 pub(crate) struct Made {
     pub(crate) evidence: Evidence,
     pub(crate) history: Option<String>,
+    pub(crate) labels: Option<String>,
+}
+
+/// Which texts are wanted.
+#[derive(Clone, Copy)]
+pub struct WantedTexts {
+    pub history: bool,
+    pub labels: bool,
 }
 
 /// What a script leaves.
@@ -27,28 +36,44 @@ pub(crate) struct Made {
 pub(crate) fn by_script(
     alloc: Global,
     course: &Course,
-    keeps: bool,
+    keeps: WantedTexts,
 ) -> Result<Made, SimulationFault>
-    ensures { IfOk result (λ made. IsOfScript course.now.config course.now.switches (head_of course.now) keeps made.evidence (option_map string_bytes made.history)) }
+    ensures { IfOk result (λ made. IsOfScript course.now.config course.now.switches (head_of course.now) keeps made.evidence (option_map string_bytes made.history, option_map string_bytes made.labels)) }
 {
     let mut history = History::new(alloc);
     let evidence = simulate(alloc, course, &mut history)?;
-    let history = text_if(alloc, keeps, &course.head(), &history)?;
-    Ok(Made { evidence, history })
+    let labels = labels_if(alloc, keeps.labels, course.config, &history)?;
+    let history = text_if(alloc, keeps.history, &course.head(), &history)?;
+    Ok(Made {
+        evidence,
+        history,
+        labels,
+    })
 }
 
 /// What the lines of a schedule leave.
 #[tactic(auto, using(crate::proofs::MadeRuns::of_lines))]
-pub(crate) fn by_lines(alloc: Global, schedule: &Schedule, keeps: bool) -> Result<Made, ReplayFault>
-    ensures { IfOk result (λ made. IsOfLines schedule.now keeps made.evidence (option_map string_bytes made.history)) }
+pub(crate) fn by_lines(
+    alloc: Global,
+    schedule: &Schedule,
+    keeps: WantedTexts,
+) -> Result<Made, ReplayFault>
+    ensures { IfOk result (λ made. IsOfLines schedule.now keeps made.evidence (option_map string_bytes made.history, option_map string_bytes made.labels)) }
 {
     let mut history = History::new(alloc);
     let evidence = match replay(alloc, schedule, &mut history) {
         Ok(evidence) => evidence,
         Err(fault) => return Err(fault),
     };
-    match text_if(alloc, keeps, &schedule.head, &history) {
-        Ok(history) => Ok(Made { evidence, history }),
+    let Ok(labels) = labels_if(alloc, keeps.labels, schedule.head.config, &history) else {
+        return Err(ReplayFault::OutOfMemory);
+    };
+    match text_if(alloc, keeps.history, &schedule.head, &history) {
+        Ok(history) => Ok(Made {
+            evidence,
+            history,
+            labels,
+        }),
         Err(_) => Err(ReplayFault::OutOfMemory),
     }
 }

@@ -9,6 +9,7 @@ mod demands;
 mod help;
 mod naming;
 mod request;
+mod scripted;
 mod simulating;
 mod subcommands;
 

@@ -119,7 +119,9 @@ pub struct Simulation<'a> {
     pub mishaps: Vec<&'a str>,
     /// The file that is made of what happens, if one is wanted.
     pub history: Option<&'a str>,
-    /// The file of what is to happen, if it isn't a script. Then nothing else is said but a history and the folder.
+    /// The file that is made of what was done wrong, if one is wanted.
+    pub labels: Option<&'a str>,
+    /// The file of what is to happen, if it isn't a script. Then nothing else is said but a history, labels and the folder.
     pub schedule: Option<&'a str>,
     /// The folder that is made.
     pub folder: &'a str,

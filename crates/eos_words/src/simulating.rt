@@ -37,7 +37,7 @@ const SCHEDULED: &[&str] = &[
     "mishap",
 ];
 
-static SIMULATE_ARGUMENTS: [Argument; 23] = [
+static SIMULATE_ARGUMENTS: [Argument; 24] = [
     Argument {
         name: "seed",
         help: "What the script is drawn from, 0 to 2^64 - 1",
@@ -165,6 +165,12 @@ static SIMULATE_ARGUMENTS: [Argument; 23] = [
         form: Form::Valued("FILE", ValueParser::NonEmptyString),
     },
     Argument {
+        name: "labels",
+        help: "Writes what was done wrong to this new file, as JSON lines",
+        presence: Presence::Optional,
+        form: Form::Valued("FILE", ValueParser::NonEmptyString),
+    },
+    Argument {
         name: "schedule",
         help: "Runs the lines of such a file, in place of a script",
         presence: Presence::Without(SCHEDULED),
@@ -249,8 +255,13 @@ With --history all that happens is written to FILE, which must not be there, as
 JSON lines (docs/SIMULATOR.md): what the cluster is, each event with its reply,
 and the totals. --schedule runs the lines of such a file, so that they can be
 cut, edited and run again. It says what the other options would say but for
---history, so none of them goes with it; a reply may be left out, and one that
-comes out differently is told with its number (status 1).
+--history and --labels, so none of them goes with it; a reply may be left out,
+and one that comes out differently is told with its number (status 1).
+
+With --labels what was done wrong is written to FILE, which must not be there:
+a JSON line for each mishap, each message that was lost or repeated, and each
+rule that was broken where a message was taken, with its place in the log; and
+for a mishap and a broken rule the codes of the faults that may follow.
 
 It shows what a fault looks like and that the checker finds it, and says nothing
 of real brokers.

@@ -1,0 +1,77 @@
+-- The labels of a run: what was done wrong, each with the number of its line in the history. They are a function of what was done.
+use Rattle.std.specs.Prelude.{ℕ, ◌+◌, Bool, List, [], ◌∷◌, ◌++◌, slice_get, if◌then◌else◌}
+use Rattle.eos_machine.specs.declared.event.Event.{Event}
+use Rattle.eos_machine.specs.declared.event.Event.TheVariants as events
+use Rattle.eos_machine.specs.declared.event.Reply.{Reply}
+use Rattle.eos_machine.specs.declared.event.Reply.TheVariants as replies
+use Rattle.eos_machine.specs.declared.switches.Switch.{Switch}
+use Rattle.eos_machine.specs.declared.switches.Switch.TheVariants.{KeepDuplicates, NoFence, NoBump, LoseMarker, SwapMarker, HideListing, IgnoreGeneration}
+use Rattle.eos_machine.specs.declared.switches.Switches.{Switches}
+use Rattle.eos_cluster.specs.Breaches.{broken, log_of}
+use Rattle.eos_cluster.specs.Courses.{Course}
+use Rattle.eos_drive.specs.Driven.{after_deed}
+use Rattle.eos_drive.specs.declared.deed.Deed.{Deed}
+use Rattle.eos_drive.specs.declared.deed.Deed.TheVariants as done
+use Rattle.eos_drive.specs.declared.deed.Note.{Note}
+use Rattle.eos_drive.specs.declared.deed.Note.TheVariants as notes
+use Rattle.eos_simulate.specs.declared.labels.Label.{Label}
+use Rattle.eos_simulate.specs.declared.labels.Taken.{Taken}
+use Rattle.eos_simulate.specs.declared.labels.Wrong.{Wrong}
+use Rattle.eos_simulate.specs.declared.labels.Wrong.TheVariants as wrongs
+
+abbrev pub broken_if : Bool → Switch → ℕ → Taken → List Label
+broken_if on rule number taken = if on then record { number = number; wrong = wrongs.Broken rule taken } ∷ [] else []
+
+-- a label for each of these rules, which are broken where a message is taken
+abbrev pub broken_labels : Switches → ℕ → Taken → List Label
+broken_labels u number taken =
+    broken_if u.keep_duplicates KeepDuplicates number taken ++ (broken_if u.no_fence NoFence number taken ++ (broken_if u.no_bump NoBump number taken
+    ++ (broken_if u.lose_marker LoseMarker number taken ++ (broken_if u.swap_marker SwapMarker number taken
+    ++ (broken_if u.hide_listing HideListing number taken ++ broken_if u.ignore_generation IgnoreGeneration number taken)))))
+
+-- the message of number n was taken, and stands at this offset
+abbrev pub taken_at : Course → ℕ → ℕ → Taken
+taken_at s n offset = record { message = n; place = log_of s.config (slice_get s.world.messages n); offset = offset }
+
+abbrev pub answer_labels : Course → ℕ → ℕ → Reply → List Label
+answer_labels s number n (replies.Done offset) = broken_labels (broken s.switches s.config s.world n) number (taken_at s n offset)
+answer_labels s number n replies.Fenced = []
+answer_labels s number n replies.OutOfOrder = []
+answer_labels s number n replies.DuplicateKept = []
+answer_labels s number n replies.WrongState = []
+answer_labels s number n replies.Busy = []
+answer_labels s number n replies.StaleGeneration = []
+answer_labels s number n replies.EpochsSpent = []
+answer_labels s number n replies.Unknown = []
+answer_labels s number n replies.OutOfMemory = []
+answer_labels s number n replies.Full = []
+
+abbrev pub event_labels : Course → ℕ → Event → Reply → List Label
+event_labels s number (events.Feed p) reply = []
+event_labels s number (events.Start a) reply = []
+event_labels s number (events.Produce n p x) reply = []
+event_labels s number (events.Commit n q v) reply = []
+event_labels s number (events.End n k) reply = []
+event_labels s number (events.Resume n) reply = []
+event_labels s number (events.Fetch n q) reply = []
+event_labels s number events.Members reply = []
+event_labels s number (events.BrokerRestart t p) reply = []
+event_labels s number events.CoordinatorRestart reply = []
+event_labels s number (events.Deliver n) reply = answer_labels s number n reply
+
+-- a mishap, and what the network lost and repeated
+abbrev pub wrong_note : Note → Wrong
+wrong_note (notes.Lost message) = wrongs.Lost message
+wrong_note (notes.Repeated message) = wrongs.Repeated message
+wrong_note (notes.Erred mishap) = wrongs.Erred mishap
+
+-- of what was done to a cluster that is so
+abbrev pub deed_labels : Course → ℕ → Deed → List Label
+deed_labels s number (done.Asked event reply) = event_labels s number event reply
+deed_labels s number (done.Set switches) = []
+deed_labels s number (done.Noted note) = record { number = number; wrong = wrong_note note } ∷ []
+
+-- of these deeds, numbered from this on
+abbrev pub labels_from : ℕ → Course → List Deed → List Label
+labels_from number s [] = []
+labels_from number s (d ∷ ds) = deed_labels s number d ++ labels_from (number + 1) (after_deed s d) ds
