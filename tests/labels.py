@@ -9,8 +9,9 @@ docs/labels.schema.json. Without a switch no rule was broken. Then the score. Of
 elsewhere. Of a fault: a label has its code. Of a label: a fault with one of its codes is found. What is missed is explained: labels of
 HARMLESS may do no harm, nor does a zombie's record before the abort of its own transaction, a mishap's transaction may come to nothing where a rule is broken too, and a fault is hidden behind those of a
 phase before, which `check --all` then lists alone: it stands by the second program, tests/reference.py, which looks at every phase of these
-folders, and of every tenth. Faults of AT_LABELS stand at records that a label names. With REFUSE.SO (tests/refuse.c, built) the allocations
-of a run are refused. Prints what is wrong and the score, and as its last line 'N passed, N failed'.
+folders, and of every tenth. Faults of AT_LABELS stand at records that a label names. Then `--count` makes the folders that single calls
+make. With REFUSE.SO (tests/refuse.c, built) the allocations of a run are refused. Prints what is wrong and the score, and as its last line
+'N passed, N failed'.
 """
 import collections
 import concurrent.futures
@@ -227,6 +228,36 @@ def bad_files():
         expect(file.read() == "mine\n", "the file that was there was written to")
 
 
+def counted():
+    """Many folders in one call are those of single calls, and the index says how each is made."""
+    words = ["--events", 120, "--switch", "no-fence", "--switch-at", 30, "--inputs", 3]
+    folder, single = os.path.join(scratch, "many"), os.path.join(scratch, "single")
+    found = run("simulate", "--count", 4, "--seed", 18446744073709551614, *words, folder)
+    index = [json.loads(line) for line in found[1].splitlines()]
+    expect(found[0] == 0 and found[2] == "" and len(index) == 4, f"--count: {found}")
+    for place, it in enumerate(index):
+        seed = (18446744073709551614 + place) % 2**64
+        expect(it["folder"] == f"{folder}/{place + 1:06}" and it["labels"] == f"{it['folder']}.labels", f"{it}: where it lies")
+        expect(it["words"][:2] == ["--seed", str(seed)], f"{it}: its seed")
+        made = run("simulate", *it["words"], "--labels", f"{single}.labels", single)
+        expect(made[0] == 0 and same_folder(single, it["folder"]) and filecmp.cmp(f"{single}.labels", it["labels"], shallow=False), f"{it}: another folder")
+        shutil.rmtree(single)
+        os.remove(f"{single}.labels")
+    expect(sorted(os.listdir(folder)) == [f"{place:06}{it}" for place in range(1, 5) for it in ("", ".labels")], "something else lies there")
+    again = run("simulate", "--count", 1, "--seed", 1, "--events", 9, folder)
+    expect(again == (2, "", f"eoscheck: cannot write {folder}: it is there already\n"), f"a folder that is there: {again}")
+    told = run("simulate", "--count", 2, "--progress", "--seed", 1, "--events", 9, f"{folder}-2")
+    expect(told[0] == 0 and told[2] == "eoscheck: 1 of 2 seeds\neoscheck: 2 of 2 seeds\n", f"--progress: {told}")
+    unfit = run("simulate", "--count", 2, "--seed", 1, "--events", 9, "--lose", 600, "--abort", 600, f"{folder}-3")
+    expect(unfit[:2] == (2, "") and not os.path.exists(f"{folder}-3"), f"words that don't fit: {unfit}")
+    drawn = ["--seed", 1, "--events", 9]
+    for words in ([*drawn, "--count", 0], [*drawn, "--count", 1000000], [*drawn, "--count", 2, "--history", single], [*drawn, "--count", 2, "--labels", single], ["--schedule", single, "--count", 2]):
+        bad = run("simulate", *words, f"{folder}-5")
+        expect(bad[:2] == (2, "") and bad[2] and not os.path.exists(f"{folder}-5"), f"{words}: {bad}")
+    missing = run("simulate", "--count", 2, "--seed", 1, "--events", 0, "--mishap", "lost-output", f"{folder}-4")
+    expect(missing[:2] == (0, "") and missing[2].count("\n") == 2 and os.listdir(f"{folder}-4") == [], f"seeds that a mishap doesn't suit: {missing}")
+
+
 def refused_memory(library):
     """Each allocation, or where there are many every so-manieth: the folder, the history and the labels are there whole, or none is."""
     paths = [os.path.join(scratch, it) for it in ("memory", "memory-history", "memory-labels")]
@@ -270,6 +301,7 @@ def main():
     expect(not left, f"recall: {[' '.join(map(str, it.words)) for it in left[:3]]} are not refused")
     expect(not [why for why in missed if why.startswith("unexplained")], f"labels are missed: {[(it.words, it.missed) for it in found if any(why.startswith('unexplained') for why in it.missed)][:3]}")
     bad_files()
+    counted()
     if len(sys.argv) > 2 and sys.argv[2] != "-":
         refused_memory(os.path.abspath(sys.argv[2]))
     print(f"{passed} passed, {failed} failed")

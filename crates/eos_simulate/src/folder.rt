@@ -1,19 +1,28 @@
 //! The command `simulate`, and what it says on standard error.
 
+use crate::folders::simulate_folders;
 use crate::leaving::{Unleft, Unsimulated, simulate_to};
 use crate::making::SimulationFault;
 use crate::replaying::ReplayFault;
 use eos_disk::{Cause, ChangeFault, HostDisk, WritingFault};
-use eos_ending::{Ending, STANDARD, Subject, end, end_unchanged, end_unread};
+use eos_ending::{Ending, STANDARD, Subject, end, end_about, end_unchanged, end_unread};
 use eos_history_lines::{Line, LineFault, ScheduleFault, line_text};
 use eos_words::Simulation;
 use std::alloc::AllocError;
 use std::io;
 
 /// Writes what a simulated cluster leaves as a new folder, and its history and its labels to new files, if that is asked for; and then on
-/// standard output that it did. Gives the exit status.
+/// standard output that it did; or so many of these folders. Gives the exit status.
 #[inline(never)]
 pub fn simulate_folder(rt: &HostRuntime, words: &Simulation<'_>) -> u8 {
+    match words.count {
+        Some(count) => simulate_folders(rt, words, count),
+        None => simulate_one(rt, words),
+    }
+}
+
+#[inline(never)]
+fn simulate_one(rt: &HostRuntime, words: &Simulation<'_>) -> u8 {
     let mut disk = HostDisk { rt };
     match simulate_to(
         rt.alloc(),
@@ -29,7 +38,7 @@ pub fn simulate_folder(rt: &HostRuntime, words: &Simulation<'_>) -> u8 {
 }
 
 /// Says why nothing is left, and gives the exit status.
-fn end_unleft(rt: &HostRuntime, words: &Simulation<'_>, why: Unleft) -> u8 {
+pub(crate) fn end_unleft(rt: &HostRuntime, words: &Simulation<'_>, why: Unleft) -> u8 {
     let schedule = words.schedule.unwrap_or(STANDARD);
     match why {
         Unleft::History(fault) => end_unchanged(rt, words.history.unwrap_or(STANDARD), fault),
@@ -37,7 +46,7 @@ fn end_unleft(rt: &HostRuntime, words: &Simulation<'_>, why: Unleft) -> u8 {
         Unleft::Unread(fault) => end_unread(rt, Subject::Only, &fault),
         Unleft::Refused(fault) => end_refused(rt, schedule, fault),
         Unleft::Unreplayed(fault, lines) => end_unreplayed(rt, schedule, lines, fault),
-        Unleft::Unmade(fault) => end_unmade(rt, fault),
+        Unleft::Unmade(fault) => end_unmade(rt, Subject::Only, fault),
         Unleft::ThereAlready => end_unchanged(rt, words.folder, ChangeFault::ThereAlready),
         Unleft::Unwritten(fault) => end_unwritten(rt, fault),
     }
@@ -81,12 +90,12 @@ fn tell_otherwise(rt: &HostRuntime, path: &str, line: &Line) -> Result<(), Alloc
 }
 
 /// Says why there is no evidence of a simulated cluster.
-fn end_unmade(rt: &HostRuntime, fault: SimulationFault) -> u8 {
+pub(crate) fn end_unmade(rt: &HostRuntime, subject: Subject<'_>, fault: SimulationFault) -> u8 {
     match fault {
-        SimulationFault::NotAtRest => end(rt, Ending::NotAtRest),
-        SimulationFault::Limit => end(rt, Ending::Limit(&Cause::Unknown)),
-        SimulationFault::Unfit(what, why) => end(rt, Ending::Unfit(what, why)),
-        SimulationFault::OutOfMemory => end(rt, Ending::OutOfMemory),
+        SimulationFault::NotAtRest => end_about(rt, subject, Ending::NotAtRest),
+        SimulationFault::Limit => end_about(rt, subject, Ending::Limit(&Cause::Unknown)),
+        SimulationFault::Unfit(what, why) => end_about(rt, subject, Ending::Unfit(what, why)),
+        SimulationFault::OutOfMemory => end_about(rt, subject, Ending::OutOfMemory),
     }
 }
 

@@ -10,6 +10,7 @@ mod evidence;
 pub mod evidence_laws;
 mod folder;
 pub mod folder_laws;
+mod folders;
 mod history_file;
 mod kept;
 mod label_lines;
@@ -18,6 +19,7 @@ pub mod laws;
 mod leaving;
 mod made;
 mod making;
+mod recipe;
 mod replaying;
 mod schedule_file;
 

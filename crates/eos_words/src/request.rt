@@ -123,6 +123,11 @@ pub struct Simulation<'a> {
     pub labels: Option<&'a str>,
     /// The file of what is to happen, if it isn't a script. Then nothing else is said but a history, labels and the folder.
     pub schedule: Option<&'a str>,
+    /// How many folders are made in the folder, if several are wanted, of the seeds from this one on: from 1 to 999,999. Then no history,
+    /// labels or schedule are said.
+    pub count: Option<u64>,
+    /// Whether it is told how many are made.
+    pub progress: bool,
     /// The folder that is made.
     pub folder: &'a str,
 }

@@ -28,6 +28,8 @@ pub(crate) fn read_simulate<'a>(
         history: inner.get_str("history"),
         labels: inner.get_str("labels"),
         schedule: inner.get_str("schedule"),
+        count: inner.get_one::<u64>("count"),
+        progress: inner.get_flag("progress"),
         folder,
     })))
 }

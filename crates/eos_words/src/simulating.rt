@@ -37,7 +37,10 @@ const SCHEDULED: &[&str] = &[
     "mishap",
 ];
 
-static SIMULATE_ARGUMENTS: [Argument; 24] = [
+/// What each of several folders has of its own, or can't have.
+const SINGLE: &[&str] = &["history", "labels", "schedule"];
+
+static SIMULATE_ARGUMENTS: [Argument; 26] = [
     Argument {
         name: "seed",
         help: "What the script is drawn from, 0 to 2^64 - 1",
@@ -177,6 +180,18 @@ static SIMULATE_ARGUMENTS: [Argument; 24] = [
         form: Form::Valued("FILE", ValueParser::NonEmptyString),
     },
     Argument {
+        name: "count",
+        help: "So many folders in FOLDER, of the seeds from S on",
+        presence: Presence::Without(SINGLE),
+        form: Form::Valued("N", ValueParser::Unsigned(1, 999_999)),
+    },
+    Argument {
+        name: "progress",
+        help: "With --count, tells on standard error how many are made",
+        presence: Presence::Optional,
+        form: Form::Flag,
+    },
+    Argument {
         name: "folder",
         help: "The folder that is made",
         presence: Presence::Required,
@@ -263,6 +278,13 @@ a JSON line for each mishap, each message that was lost or repeated, and each
 rule that was broken where a message was taken, with its place in the log; and
 for a mishap and a broken rule the codes of the faults that may follow.
 
+With --count so many folders are made in FOLDER, which must not be there: 000001
+and so on, of the seeds from S on. Each is as its own words would make it, with
+its labels beside it, as 000001.labels. When it is whole, a line of JSON on
+standard output tells its folder, its labels and the words that make it. A seed
+that leaves no evidence, as where the cluster never comes to rest, is told on
+standard error, and passed over.
+
 It shows what a fault looks like and that the checker finds it, and says nothing
 of real brokers.
 
@@ -271,4 +293,5 @@ Examples:
   eoscheck simulate --seed 7 --events 200 --switch no-fence FOLDER
   eoscheck simulate --seed 7 --events 200 --chain --mishap lost-output FOLDER
   eoscheck simulate --seed 7 --events 200 --history history.jsonl FOLDER
-  eoscheck simulate --schedule history.jsonl FOLDER";
+  eoscheck simulate --schedule history.jsonl FOLDER
+  eoscheck simulate --count 100 --seed 1 --events 200 FOLDER >index.jsonl";
