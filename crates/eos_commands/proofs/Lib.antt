@@ -3,6 +3,7 @@ mod Asked
 mod CopiedEnds
 mod FoldersFound
 mod FoldsMore
+mod FoldsRefused
 mod FoundMore
 mod GivenTexts
 mod Likenesses

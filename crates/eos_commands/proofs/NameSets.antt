@@ -44,7 +44,7 @@ reversed Less = refl
 reversed Equal = refl
 reversed Greater = refl
 
-tied_back : (x y : PartitionName) → is_eq (name_cmp x y) ≡ is_eq (name_cmp y x)
+pub tied_back : (x y : PartitionName) → is_eq (name_cmp x y) ≡ is_eq (name_cmp y x)
 tied_back x y = ap is_eq (name_total.antisymm x y) ∙ reversed (name_cmp y x)
 
 found_in_row : (keys : List PartitionName) (name : PartitionName) → list_any (λ y. is_eq (name_cmp y name)) keys ≡ list_any (is_at (name_cmp name)) keys

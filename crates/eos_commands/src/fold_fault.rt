@@ -1,6 +1,7 @@
 //! Why segments aren't folded.
 
-ghost use Rattle.std.specs.Prelude.{◌≡◌};
+ghost use Rattle.std.specs.Prelude.{◌≡◌, string_bytes};
+ghost use Rattle.eos_commands.specs.FoldRefusals.{IsUnwritten};
 ghost use Rattle.eos_commands.specs.declared.fold_fault.FoldingFault.TheVariants.{Unread, OutOfMemory};
 
 use eos_disk::{ChangeFault, FolderFault};
@@ -48,7 +49,9 @@ impl<'a, T: Drop> From<AllocFailed<T>> for FoldingFault<'a> {
 }
 
 /// What can't be written at this path.
-pub(crate) fn unwritten<'a>(path: String, fault: ChangeFault) -> FoldingFault<'a> {
+pub(crate) fn unwritten<'a>(path: String, fault: ChangeFault) -> FoldingFault<'a>
+    ensures { IsUnwritten (string_bytes path) result }
+{
     match fault {
         ChangeFault::OutOfMemory => FoldingFault::OutOfMemory,
         fault => FoldingFault::CannotWrite(path, fault),

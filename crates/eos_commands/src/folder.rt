@@ -1,9 +1,13 @@
 //! The folders that are given: of which partitions they are, and which segments lie in them.
 
-ghost use Rattle.std.specs.Prelude.{◌≡◌, ◌&&◌, [], map, bytes_eq, IfOk};
+ghost use Rattle.std.specs.Prelude.{◌≡◌, ◌⊎◌, ◌&&◌, [], map, bytes_eq, IfOk, IfErr, OnOk, string_bytes};
 ghost use Rattle.std.specs.Ordering.{int_eq};
 ghost use Rattle.eos_manifest.specs.Manifests.{has_end};
-ghost use Rattle.eos_commands.specs.Folding.{IsFolderAt, AreFoldersAt};
+ghost use Rattle.eos_disk.specs.Paths.{file_path};
+ghost use Rattle.eos_disk.specs.declared.names.Form.TheVariants.{Log};
+ghost use Rattle.eos_commands.specs.Folding.{IsFolderAt};
+ghost use Rattle.eos_commands.specs.FoldRefusals.{IsUnfolded, AreFit, RefusesFolded, RefusesFolder, IsFirstGiven};
+ghost use Rattle.eos_commands.specs.declared.fold_fault.FoldingFault.TheVariants.{OutOfMemory};
 ghost use Rattle.eos_commands.specs.Paths.{partition_at};
 
 use crate::fold_fault::FoldingFault;
@@ -38,13 +42,24 @@ impl<'a> PartitionFolder<'a> {
         })
     }
 
+    /// The path of its log with this first offset.
+    pub(crate) fn log_path(&self, alloc: Global, base: i64) -> Result<String, AllocError>
+        ensures { IfOk result (λ path. string_bytes path ≡ file_path self.now.path.now base Log) }
+    {
+        let partition = self.path;
+        format!(in alloc; "{partition}/{base:020}.log")
+    }
+
     /// Refuses it where a file has the name of one of its folds already.
     fn refuse_folded<D: DiskMut>(
         &self,
         alloc: Global,
         disk: &D,
         out: &str,
-    ) -> Result<(), FoldingFault<'a>> {
+    ) -> Result<(), FoldingFault<'a>>
+        ensures ok { OnOk result (IsUnfolded (D.holds disk.now) out.now self.now) }
+        ensures refused { IfErr result (RefusesFolded (D.holds disk.now) out.now self.now) }
+    {
         for base in self.bases.as_slice() {
             let path = segment_path(alloc, out, &self.segment(*base)?, Form::Fold)?;
             if disk.stands(path.as_str()) {
@@ -67,7 +82,8 @@ pub(crate) fn find_folders<'a, D: DiskMut>(
     ends: &[End],
     out: &str,
 ) -> Result<Vec<PartitionFolder<'a>>, FoldingFault<'a>>
-    ensures { IfOk result (λ folders. AreFoldersAt (D.holds disk.now) ends.now (map (λ p. p.now) paths.now) folders.items) }
+    ensures ok { IfOk result (λ folders. AreFit (D.holds disk.now) ends.now out.now (map (λ p. p.now) paths.now) folders.items) }
+    ensures refused { IfErr result (λ why. (why ≡ OutOfMemory) ⊎ IsFirstGiven (D.holds disk.now) ends.now out.now (map (λ p. p.now) paths.now) why) }
 {
     let mut names = BTreeSet::new(alloc);
     let mut folders = Vec::new(alloc);
@@ -88,7 +104,8 @@ fn find_folder<'a, D: Disk>(
     path: &'a str,
     ends: &[End],
 ) -> Result<PartitionFolder<'a>, FoldingFault<'a>>
-    ensures { IfOk result (IsFolderAt (D.holds disk.now) ends.now path.now) }
+    ensures ok { IfOk result (IsFolderAt (D.holds disk.now) ends.now path.now) }
+    ensures refused { IfErr result (RefusesFolder ends.now path.now) }
 {
     let Some(name) = partition_at(alloc, path)? else {
         return Err(FoldingFault::NoName(path));

@@ -1,6 +1,6 @@
 //! Folding segments, one after the other.
 
-ghost use Rattle.std.specs.Prelude.{◌≡◌, ℕ, List, map, Ok, IfOk, OnOk, OnErr, string_bytes};
+ghost use Rattle.std.specs.Prelude.{◌≡◌, ◌⊎◌, ℕ, List, map, Ok, IfOk, IfErr, OnOk, OnErr, string_bytes};
 ghost use Rattle.eos_disk.specs.Entries.{HasBytes};
 ghost use Rattle.eos_evidence.specs.Manifest.{spec_said_by};
 ghost use Rattle.eos_evidence.specs.SpecFields.{SpecFields};
@@ -8,14 +8,18 @@ ghost use Rattle.eos_fold_file.specs.Legal.{IsRight};
 ghost use Rattle.eos_disk.specs.Refusals.{RefusesFile};
 ghost use Rattle.eos_commits.specs.SourceTopics.{AreSourceTopics};
 ghost use Rattle.eos_commands.specs.Folding.{item_of, items_in, items_of, AreFoldersAt, IsFoldAt, IsFoldPut, IsFoldLeft, Folded as AreFolded, FoldedInPart};
+ghost use Rattle.eos_commands.specs.FoldRefusals.{IsUnreadLog, RefusesLog, IsFirstLog, RefusesFolds};
+ghost use Rattle.eos_disk.specs.Paths.{file_path};
+ghost use Rattle.eos_disk.specs.declared.names.Form.TheVariants.{Log};
 ghost use Rattle.eos_commands.specs.declared.folder.PartitionFolder.{PartitionFolder};
+ghost use Rattle.eos_commands.specs.declared.fold_fault.FoldingFault.TheVariants.{OutOfMemory};
 
 use crate::fold_fault::FoldingFault;
 use crate::fold_writing::write_fold;
 use crate::folder::{PartitionFolder, find_folders};
 use bytes::Bytes;
 use eos_commits::source_topics;
-use eos_disk::{Disk, DiskMut, FolderFault, NamedFile, open_log, read_manifest, refusal_of};
+use eos_disk::{Disk, DiskMut, FolderFault, NamedFile, open_file, read_manifest, refusal_of};
 use eos_evidence::{App, ReadFault};
 use eos_fold_file::{FoldFile, encode_fold, fold_of};
 use eos_reading::{Wanted, Wants};
@@ -84,6 +88,7 @@ pub fn fold_folders<'a, D: DiskMut>(
         × AreFoldersAt (D.holds disk.old) spec.ends (map (λ p. p.now) given.entry.folders.now) folders
         × AreSourceTopics spec.apps topics × AreFolded (D.holds disk.old) topics given.entry.out.now (items_of spec.apps folders) (D.holds disk.new)) }
     ensures err { OnErr result ((topics : List (List ℕ)) × FoldedInPart (D.holds disk.old) topics given.entry.out.now (D.holds disk.new)) }
+    ensures refused { IfErr result (RefusesFolds (D.holds disk.old) given.entry.manifest.now given.entry.out.now (map (λ p. p.now) given.entry.folders.now) (D.holds disk.new)) }
 {
     let manifest = String::from_str(alloc, given.manifest)?;
     let spec = read_manifest(alloc, &*disk, manifest)?;
@@ -109,6 +114,8 @@ fn fold_all<'a, D: DiskMut>(
 ) -> Result<Folded, FoldingFault<'a>>
     ensures ok { OnOk result (AreFolded (D.holds disk.old) roles.entry.topics.now roles.entry.out.now (items_of roles.entry.apps.now folders.now) (D.holds disk.new)) }
     ensures err { OnErr result (FoldedInPart (D.holds disk.old) roles.entry.topics.now roles.entry.out.now (D.holds disk.new)) }
+    ensures refused { IfErr result (λ why. (why ≡ OutOfMemory)
+        ⊎ IsFirstLog (D.holds disk.old) roles.entry.topics.now roles.entry.out.now (items_of roles.entry.apps.now folders.now) (D.holds disk.new) why) }
 {
     let wants = Wants::of(alloc, roles.apps)?;
     let mut folded = Folded {
@@ -136,6 +143,7 @@ fn fold_folder<'a, D: DiskMut>(
 ) -> Result<(), FoldingFault<'a>>
     ensures ok { OnOk result (AreFolded (D.holds disk.old) asked.entry.topics.now asked.entry.out.now (items_in asked.entry.wanted folder.now) (D.holds disk.new)) }
     ensures err { OnErr result (FoldedInPart (D.holds disk.old) asked.entry.topics.now asked.entry.out.now (D.holds disk.new)) }
+    ensures refused { IfErr result (IsFirstLog (D.holds disk.old) asked.entry.topics.now asked.entry.out.now (items_in asked.entry.wanted folder.now) (D.holds disk.new)) }
 {
     for base in folder.bases.as_slice() {
         folded.add(fold_segment(alloc, disk, folder, *base, asked)?);
@@ -154,6 +162,7 @@ fn fold_segment<'a, D: DiskMut>(
 ) -> Result<u64, FoldingFault<'a>>
     ensures ok { OnOk result (IsFoldPut (D.holds disk.old) asked.entry.topics.now asked.entry.out.now (item_of asked.entry.wanted folder.now base) (D.holds disk.new)) }
     ensures err { OnErr result (IsFoldLeft (D.holds disk.old) asked.entry.out.now (item_of asked.entry.wanted folder.now base) (D.holds disk.new)) }
+    ensures refused { IfErr result (RefusesLog (D.holds disk.old) asked.entry.topics.now asked.entry.out.now (item_of asked.entry.wanted folder.now base)) }
 {
     let fold = read_fold(alloc, &*disk, folder, base, asked)?;
     let bytes = encode_fold(alloc, &fold)?;
@@ -184,11 +193,14 @@ fn read_fold<'a, D: Disk>(
 ) -> Result<FoldFile, FoldingFault<'a>>
     ensures fold { IfOk result (IsFoldAt (D.holds disk.now) asked.entry.topics.now (item_of asked.entry.wanted folder.now base)) }
     ensures right { IfOk result IsRight }
+    ensures refused { IfErr result (IsUnreadLog (D.holds disk.now) (file_path folder.now.path.now base Log)) }
 {
     let name = folder.segment(base)?;
-    let mut file = open_log(alloc, disk, folder.path, base)?;
+    let path = folder.log_path(alloc, base)?;
+    let named = open_file(alloc, disk, path)?;
+    let NamedFile { path, mut file } = named;
     match fold_of(alloc, asked.wanted, asked.topics, &name, &mut file) {
         Ok(fold) => Ok(fold),
-        Err(why) => Err(FoldingFault::Unread(refused(alloc, file, why))),
+        Err(why) => Err(FoldingFault::Unread(refusal_of(alloc, path, &mut file, why))),
     }
 }
