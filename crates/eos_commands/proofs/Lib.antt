@@ -1,14 +1,17 @@
 mod AllFolded
 mod Asked
 mod CopiedEnds
+mod CopiesRefused
 mod FoldersFound
 mod FoldsMore
 mod FoldsRefused
 mod FoundMore
 mod GivenTexts
+mod InitRefused
 mod Likenesses
 mod ManifestParts
 mod NameSets
 mod Placed
 mod SortCounts
 mod Unmade
+mod WordsRefused

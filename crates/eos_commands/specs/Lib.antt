@@ -2,6 +2,7 @@ pub mod Copies
 pub mod Making
 pub mod steps
 pub mod FoldRefusals
+pub mod InitRefusals
 pub mod Folding
 pub mod Paths
 pub mod Verifying

@@ -1,6 +1,6 @@
 //! The copied logs: which partitions have a folder, and what is read of their segments.
 
-ghost use Rattle.std.specs.Prelude.{◌≡◌, ◌≢◌, ◌++◌, List, pos, true, false, IfOk, OnOk};
+ghost use Rattle.std.specs.Prelude.{◌≡◌, ◌≢◌, ◌⊎◌, ◌++◌, List, pos, true, false, IfOk, IfErr, OnOk};
 ghost use Rattle.std.specs.BTreeSet.{BTreeSet};
 ghost use Rattle.eos_base.specs.Members.{is_found};
 ghost use Rattle.eos_base.specs.PartitionNames.{name_cmp};
@@ -8,8 +8,11 @@ ghost use Rattle.eos_base.specs.declared.partition_name.PartitionName.{Partition
 ghost use Rattle.eos_disk.specs.Entries.{HasBytes};
 ghost use Rattle.eos_disk.specs.Paths.{file_path, path_of_end};
 ghost use Rattle.eos_disk.specs.Shapes.{AreLogsAt};
+ghost use Rattle.eos_disk.specs.Stopped.{RefusesLogs};
 ghost use Rattle.eos_disk.specs.declared.names.Form.TheVariants.{Log};
 ghost use Rattle.eos_commands.specs.Copies.{names_in, AreFoldersAt, AreListedAt, AreListedBy, is_states, path_of_name, own_name, AreRequired, IsEndOfCopy, EndsAt, IsCopied, AreEndsOfCopies};
+ghost use Rattle.eos_commands.specs.InitRefusals.{RefusesBy, RefusesAt, IsFirstUnread, RefusesCopy, RefusesStates, RefusesEnd, RefusesCopies};
+ghost use Rattle.eos_commands.specs.declared.init_fault.InitFault.TheVariants.{OutOfMemory};
 ghost use Rattle.eos_commands.specs.steps.Names.{Gains};
 
 use crate::init_fault::{InitFault, unlisted};
@@ -32,7 +35,8 @@ pub(crate) struct Logs<'a, D> {
 impl<'a, D: Disk> Logs<'a, D> {
     /// The partitions that have a folder TOPIC-N in this one, in order.
     pub(crate) fn folders(&self) -> Result<Sorted<PartitionName>, InitFault>
-        ensures { IfOk result (AreFoldersAt (D.holds self.now.disk.now) self.now.folder.now) }
+        ensures ok { IfOk result (AreFoldersAt (D.holds self.now.disk.now) self.now.folder.now) }
+        ensures refused { IfErr result (RefusesBy (RefusesAt (D.holds self.now.disk.now) self.now.folder.now)) }
     {
         match self.disk.list(self.alloc, self.folder) {
             Ok(listed) => Ok(Sorted::of(names_in(self.alloc, listed.as_slice())?)),
@@ -50,7 +54,8 @@ impl<'a, D: Disk> Logs<'a, D> {
         apps: &[App],
         folders: &[PartitionName],
     ) -> Result<Sorted<PartitionName>, InitFault>
-        ensures { IfOk result (AreRequired (D.holds self.now.disk.now) self.now.folder.now apps.now folders.now) }
+        ensures ok { IfOk result (AreRequired (D.holds self.now.disk.now) self.now.folder.now apps.now folders.now) }
+        ensures refused { IfErr result (λ why. (why ≡ OutOfMemory) ⊎ RefusesStates (D.holds self.now.disk.now) self.now.folder.now apps.now folders.now why) }
     {
         let mut names = BTreeSet::new(self.alloc);
         for name in folders {
@@ -66,7 +71,8 @@ impl<'a, D: Disk> Logs<'a, D> {
         name: &PartitionName,
         names: &mut BTreeSet<PartitionName>,
     ) -> Result<(), InitFault>
-        ensures { OnOk result ((listed : List PartitionName) × AreListedAt (is_states name.now.topic) (D.holds self.now.disk.now) (path_of_name self.now.folder.now name.now) listed × Gains names.old listed names.new) }
+        ensures ok { OnOk result ((listed : List PartitionName) × AreListedAt (is_states name.now.topic) (D.holds self.now.disk.now) (path_of_name self.now.folder.now name.now) listed × Gains names.old listed names.new) }
+        ensures refused { IfErr result (λ why. (why ≡ OutOfMemory) ⊎ ((is_states name.now.topic ≡ true) × RefusesBy (RefusesCopy (D.holds self.now.disk.now) (path_of_name self.now.folder.now name.now)) why)) }
     {
         if is_states(name.topic.as_slice()) {
             return self.insert_states(name, names);
@@ -80,7 +86,8 @@ impl<'a, D: Disk> Logs<'a, D> {
         name: &PartitionName,
         names: &mut BTreeSet<PartitionName>,
     ) -> Result<(), InitFault>
-        ensures { OnOk result ((listed : List PartitionName) × AreListedAt true (D.holds self.now.disk.now) (path_of_name self.now.folder.now name.now) listed × Gains names.old listed names.new) }
+        ensures ok { OnOk result ((listed : List PartitionName) × AreListedAt true (D.holds self.now.disk.now) (path_of_name self.now.folder.now name.now) listed × Gains names.old listed names.new) }
+        ensures refused { IfErr result (RefusesBy (RefusesCopy (D.holds self.now.disk.now) (path_of_name self.now.folder.now name.now))) }
     {
         let end = as_end(name)?;
         let bases = self.bases(&end)?;
@@ -95,7 +102,8 @@ impl<'a, D: Disk> Logs<'a, D> {
         bases: &[i64],
         names: &mut BTreeSet<PartitionName>,
     ) -> Result<(), InitFault>
-        ensures { OnOk result ((listed : List PartitionName) × AreListedBy (D.holds self.now.disk.now) (path_of_end self.now.folder.now end.now) bases.now listed × Gains names.old listed names.new) }
+        ensures ok { OnOk result ((listed : List PartitionName) × AreListedBy (D.holds self.now.disk.now) (path_of_end self.now.folder.now end.now) bases.now listed × Gains names.old listed names.new) }
+        ensures refused { IfErr result (RefusesBy (IsFirstUnread (D.holds self.now.disk.now) (path_of_end self.now.folder.now end.now) bases.now)) }
     {
         for base in bases {
             let bytes = self.segment(end, *base)?;
@@ -110,7 +118,8 @@ impl<'a, D: Disk> Logs<'a, D> {
         names: &[PartitionName],
         folders: &Sorted<PartitionName>,
     ) -> Result<Vec<End>, InitFault>
-        ensures { IfOk result (λ ends. AreEndsOfCopies (D.holds self.now.disk.now) self.now.folder.now folders.now names.now ends.items) }
+        ensures ok { IfOk result (λ ends. AreEndsOfCopies (D.holds self.now.disk.now) self.now.folder.now folders.now names.now ends.items) }
+        ensures refused { IfErr result (λ why. (why ≡ OutOfMemory) ⊎ RefusesCopies (D.holds self.now.disk.now) self.now.folder.now folders.now names.now why) }
     {
         let mut ends = Vec::new(self.alloc);
         for name in names {
@@ -126,7 +135,8 @@ impl<'a, D: Disk> Logs<'a, D> {
         folders: &Sorted<PartitionName>,
         ends: &mut Vec<End>,
     ) -> Result<(), InitFault>
-        ensures { OnOk result ((here : List End) × IsCopied (is_found name_cmp folders.now name.now) (D.holds self.now.disk.now) self.now.folder.now name.now here × (ends.new.items ≡ ends.old.items ++ here)) }
+        ensures ok { OnOk result ((here : List End) × IsCopied (is_found name_cmp folders.now name.now) (D.holds self.now.disk.now) self.now.folder.now name.now here × (ends.new.items ≡ ends.old.items ++ here)) }
+        ensures refused { IfErr result (λ why. (why ≡ OutOfMemory) ⊎ ((is_found name_cmp folders.now name.now ≡ true) × RefusesEnd (D.holds self.now.disk.now) (path_of_name self.now.folder.now name.now) why)) }
     {
         if !folders.holds(name) {
             return Ok(());
@@ -137,7 +147,8 @@ impl<'a, D: Disk> Logs<'a, D> {
 
     /// Where the front of a partition's copied segments ends.
     fn end_of_copy(&self, name: &PartitionName) -> Result<End, InitFault>
-        ensures { IfOk result (IsEndOfCopy (D.holds self.now.disk.now) self.now.folder.now name.now) }
+        ensures ok { IfOk result (IsEndOfCopy (D.holds self.now.disk.now) self.now.folder.now name.now) }
+        ensures refused { IfErr result (RefusesEnd (D.holds self.now.disk.now) (path_of_name self.now.folder.now name.now)) }
     {
         let mut end = as_end(name)?;
         let bases = self.bases(&end)?;
@@ -150,7 +161,8 @@ impl<'a, D: Disk> Logs<'a, D> {
 
     /// Where the front of these segments of a partition ends, which begins at 0.
     fn end_of_front(&self, end: &End, bases: &[i64]) -> Result<u64, InitFault>
-        ensures { IfOk result (EndsAt (D.holds self.now.disk.now) (path_of_end self.now.folder.now end.now) 0 bases.now) }
+        ensures ok { IfOk result (EndsAt (D.holds self.now.disk.now) (path_of_end self.now.folder.now end.now) 0 bases.now) }
+        ensures refused { IfErr result (RefusesBy (IsFirstUnread (D.holds self.now.disk.now) (path_of_end self.now.folder.now end.now) bases.now)) }
     {
         let mut next = 0u64;
         for base in bases {
@@ -169,14 +181,16 @@ impl<'a, D: Disk> Logs<'a, D> {
 
     /// The base offsets of a partition's segments, in order.
     pub(crate) fn bases(&self, end: &End) -> Result<Vec<i64>, InitFault>
-        ensures { IfOk result (λ bases. AreLogsAt (D.holds self.now.disk.now) (path_of_end self.now.folder.now end.now) bases.items) }
+        ensures ok { IfOk result (λ bases. AreLogsAt (D.holds self.now.disk.now) (path_of_end self.now.folder.now end.now) bases.items) }
+        ensures refused { IfErr result (RefusesBy (RefusesLogs (D.holds self.now.disk.now) (path_of_end self.now.folder.now end.now))) }
     {
         Ok(bases_of(self.alloc, self.disk, self.folder, end)?)
     }
 
     /// The bytes of a partition's segment.
     pub(crate) fn segment(&self, end: &End, base: i64) -> Result<Bytes, InitFault>
-        ensures { IfOk result (HasBytes (D.holds self.now.disk.now (file_path (path_of_end self.now.folder.now end.now) base Log))) }
+        ensures ok { IfOk result (HasBytes (D.holds self.now.disk.now (file_path (path_of_end self.now.folder.now end.now) base Log))) }
+        ensures refused { IfErr result (RefusesBy (RefusesAt (D.holds self.now.disk.now) (file_path (path_of_end self.now.folder.now end.now) base Log))) }
     {
         Ok(read_segment_file(self.alloc, self.disk, self.folder, end, base)?)
     }

@@ -1,11 +1,12 @@
 //! What is given for a manifest: the words of the applications, and the ends.
 
-ghost use Rattle.std.specs.Prelude.{◌≡◌, ℕ, List, map, option_map, None, Some, Ok, IfOk, IsSorted, string_bytes};
+ghost use Rattle.std.specs.Prelude.{◌≡◌, ℕ, List, map, option_map, None, Some, Ok, IfOk, IfErr, IsSorted, string_bytes};
 ghost use Rattle.eos_base.specs.PartitionNames.{name_cmp};
 ghost use Rattle.eos_disk.specs.Entries.{HasBytes};
 ghost use Rattle.eos_evidence.specs.SpecFields.{accepted};
 ghost use Rattle.eos_manifest.specs.Lines.{ends_said_by};
 ghost use Rattle.eos_manifest.specs.Manifests.{first_without, parts_for};
+ghost use Rattle.eos_commands.specs.InitRefusals.{AreAskedFor, RefusesBy, RefusesAt, RefusesWords, RefusesEnds, RefusesParts, SaysNoEnd};
 ghost use Rattle.eos_commands.specs.Making.{apps_in_words, is_standard, IsTextOf, AreEndsGiven};
 
 use crate::copied::Logs;
@@ -31,8 +32,10 @@ pub struct Given<'a> {
 }
 
 /// The applications of the words, which can stand together in a manifest.
+#[tactic(auto, using(crate::proofs::InitRefused::not_together, crate::proofs::InitRefused::are_together))]
 pub(crate) fn read_apps(alloc: Global, words: &[&str]) -> Result<Apps, InitFault>
-    ensures { IfOk result (λ apps. apps_in_words (map (λ w. w.now) words.now) ≡ Some apps) }
+    ensures ok { IfOk result (AreAskedFor (map (λ w. w.now) words.now)) }
+    ensures refused { IfErr result (RefusesWords (map (λ w. w.now) words.now)) }
 {
     let apps = apps_of(alloc, words)?;
     match Spec::new(alloc, apps.clone()?, Listed::new(Vec::new(alloc))) {
@@ -42,7 +45,8 @@ pub(crate) fn read_apps(alloc: Global, words: &[&str]) -> Result<Apps, InitFault
 }
 
 fn apps_of(alloc: Global, words: &[&str]) -> Result<Apps, InitFault>
-    ensures { IfOk result (λ apps. apps_in_words (map (λ w. w.now) words.now) ≡ Some apps) }
+    ensures ok { IfOk result (λ apps. apps_in_words (map (λ w. w.now) words.now) ≡ Some apps) }
+    ensures refused { IfErr result (RefusesWords (map (λ w. w.now) words.now)) }
 {
     let mut apps = Vec::new(alloc);
     for at in 0..words.len() {
@@ -62,7 +66,8 @@ pub(crate) fn ends_given<D: Disk, R: Read>(
     folders: &Sorted<PartitionName>,
     input: &mut R,
 ) -> Result<Said, InitFault>
-    ensures { IfOk result (λ said. AreEndsGiven (option_map (λ p. p.now) path.entry) (D.holds logs.now.disk.now) logs.now.folder.now folders.now required.now (R.remaining input.old) (R.remaining input.new) said.ends.items) }
+    ensures ok { IfOk result (λ said. AreEndsGiven (option_map (λ p. p.now) path.entry) (D.holds logs.now.disk.now) logs.now.folder.now folders.now required.now (R.remaining input.old) (R.remaining input.new) said.ends.items) }
+    ensures refused { IfErr result (RefusesEnds (option_map (λ p. p.now) path.entry) (D.holds logs.now.disk.now) logs.now.folder.now folders.now required.now (R.remaining input.old) (R.remaining input.new)) }
 {
     let Some(path) = path else {
         return Ok(Said {
@@ -76,7 +81,8 @@ pub(crate) fn ends_given<D: Disk, R: Read>(
 
 /// The ends that the lines of a text say.
 fn said_by(alloc: Global, text: &[u8]) -> Result<Said, InitFault>
-    ensures { IfOk result (λ said. ends_said_by text.now ≡ Ok said.ends.items) }
+    ensures ok { IfOk result (λ said. ends_said_by text.now ≡ Ok said.ends.items) }
+    ensures refused { IfErr result (SaysNoEnd text.now) }
 {
     match read_ends(alloc, text) {
         Ok(ends) => Ok(Said {
@@ -101,7 +107,8 @@ fn read_text<D: Disk, R: Read>(
     path: &str,
     input: &mut R,
 ) -> Result<Bytes, InitFault>
-    ensures { IfOk result (IsTextOf (is_standard path.now) (D.holds logs.now.disk.now) path.now (R.remaining input.old) (R.remaining input.new)) }
+    ensures ok { IfOk result (IsTextOf (is_standard path.now) (D.holds logs.now.disk.now) path.now (R.remaining input.old) (R.remaining input.new)) }
+    ensures refused { IfErr result (RefusesBy (RefusesAt (D.holds logs.now.disk.now) path.now)) }
 {
     let own = String::from_str(logs.alloc, path)?;
     if !is_standard(path) {
@@ -116,7 +123,8 @@ fn read_text<D: Disk, R: Read>(
 /// The bytes of the file of this path.
 #[tactic(auto, using(crate::proofs::GivenTexts::left_stands))]
 fn read_file<D: Disk>(alloc: Global, disk: &D, path: String) -> Result<Bytes, InitFault>
-    ensures { IfOk result (HasBytes (D.holds disk.now (string_bytes path))) }
+    ensures ok { IfOk result (HasBytes (D.holds disk.now (string_bytes path))) }
+    ensures refused { IfErr result (RefusesBy (RefusesAt (D.holds disk.now) (string_bytes path))) }
 {
     let named = open_file(alloc, disk, path)?;
     Ok(named.read_whole(alloc)?)
@@ -129,7 +137,8 @@ pub(crate) fn spec_of(
     required: &Sorted<PartitionName>,
     ends: &[End],
 ) -> Result<Spec, InitFault>
-    ensures { IfOk result (λ spec. (first_without ends.now required.now ≡ None) × (accepted (parts_for apps required.now ends.now) ≡ Ok spec)) }
+    ensures ok { IfOk result (λ spec. (first_without ends.now required.now ≡ None) × (accepted (parts_for apps required.now ends.now) ≡ Ok spec)) }
+    ensures refused { IfErr result (RefusesParts apps required.now ends.now) }
 {
     match manifest_for(alloc, apps, required.as_slice(), ends) {
         Ok(spec) => Ok(spec),

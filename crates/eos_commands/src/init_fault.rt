@@ -1,6 +1,9 @@
 //! Why no manifest is made.
 
-ghost use Rattle.std.specs.Prelude.{◌≡◌};
+ghost use Rattle.std.specs.Prelude.{◌≡◌, string_bytes};
+ghost use Rattle.eos_disk.specs.Entries.{Entry, MayLackFile};
+ghost use Rattle.eos_disk.specs.Refusals.{MayRefuse, RefusesFile};
+ghost use Rattle.eos_disk.specs.declared.fault.DiskFault.TheVariants.{NotThere};
 ghost use Rattle.eos_commands.specs.declared.init_fault.InitFault.TheVariants.{Unread, OutOfMemory};
 
 use eos_base::PartitionName;
@@ -59,7 +62,10 @@ impl<T: Drop> From<AllocFailed<T>> for InitFault {
 }
 
 /// Why the folder of this path isn't listed, in the words for a file of this kind that isn't opened.
-pub(crate) fn unlisted<F: Read + Drop>(path: String, fault: DiskFault) -> FolderFault {
+pub(crate) fn unlisted<F: Read + Drop>(path: String, fault: DiskFault) -> FolderFault
+    ensures path { RefusesFile (string_bytes path) result }
+    ensures so { (e : Entry) → (fault ≡ NotThere → MayLackFile e) → MayRefuse e result }
+{
     match NamedFile::<F>::of_opened(path, Err(fault)) {
         Ok(_) => FolderFault::OutOfMemory,
         Err(fault) => fault,

@@ -1,5 +1,8 @@
 //! What the lines of ends say beside the ends, and what is told of it.
 
+ghost use Rattle.std.specs.Prelude.{◌≡◌, IfErr};
+ghost use Rattle.eos_commands.specs.declared.init_fault.InitFault.TheVariants.{OutOfMemory};
+
 use crate::init_fault::InitFault;
 use crate::note::{Note, OfLines};
 use bytes::Bytes;
@@ -37,7 +40,9 @@ pub(crate) fn push_of_lines(
     file: &str,
     apps: &[App],
     said: &Said,
-) -> Result<(), InitFault> {
+) -> Result<(), InitFault>
+    ensures { IfErr result (λ why. why ≡ OutOfMemory) }
+{
     if said.ends.is_empty() {
         return push_of_file(alloc, notes, file, OfLines::None);
     }
@@ -58,14 +63,18 @@ fn push_of_file(
     notes: &mut Vec<Note>,
     file: &str,
     what: OfLines,
-) -> Result<(), InitFault> {
+) -> Result<(), InitFault>
+    ensures { IfErr result (λ why. why ≡ OutOfMemory) }
+{
     let file = String::from_str(alloc, file)?;
     notes.push(Note::Lines(file, what))?;
     Ok(())
 }
 
 /// The topics that applications name, and Kafka's own two, each once, in order.
-fn topics_of(alloc: Global, apps: &[App]) -> Result<BTreeSet<Bytes>, InitFault> {
+fn topics_of(alloc: Global, apps: &[App]) -> Result<BTreeSet<Bytes>, InitFault>
+    ensures { IfErr result (λ why. why ≡ OutOfMemory) }
+{
     let mut topics = BTreeSet::new(alloc);
     topics.insert(Bytes::copy_from_slice(alloc, OFFSETS.as_bytes())?)?;
     topics.insert(Bytes::copy_from_slice(alloc, STATES.as_bytes())?)?;
@@ -87,7 +96,9 @@ pub(crate) fn push_of_groups(
     apps: &[App],
     said: &Said,
     folders: &Sorted<PartitionName>,
-) -> Result<(), InitFault> {
+) -> Result<(), InitFault>
+    ensures { IfErr result (λ why. why ≡ OutOfMemory) }
+{
     let Some(partitions) = partitions_of(said.ends.as_slice(), OFFSETS.as_bytes()) else {
         return Ok(());
     };

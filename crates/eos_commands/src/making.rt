@@ -1,10 +1,11 @@
 //! The manifest of a folder of copied logs, made of what the words give and what is in the folder.
 
-ghost use Rattle.std.specs.Prelude.{◌≡◌, ℕ, List, Err, IfOk, OnOk, OnErr, string_bytes};
+ghost use Rattle.std.specs.Prelude.{◌≡◌, ℕ, List, Err, IfOk, IfErr, OnOk, OnErr, string_bytes};
 ghost use Rattle.std.specs.Io.KnownBytes.{Appends};
 ghost use Rattle.eos_disk.specs.Putting.{IsLeft};
 ghost use Rattle.eos_evidence.specs.SpecFields.{SpecFields};
 ghost use Rattle.eos_disk.specs.Paths.{manifest_path};
+ghost use Rattle.eos_commands.specs.InitRefusals.{RefusesMaking, RefusesInit};
 ghost use Rattle.eos_commands.specs.Making.{IsManifestFor, IsManifestPlaced, wrote_line};
 ghost use Rattle.eos_text.specs.Writing.{WritesFront};
 
@@ -40,9 +41,9 @@ struct Manifest {
 ///
 /// # Errors
 /// The first of what stands against it, in the order: the manifest is there, a word, the folder, the transaction log, the ends,
-/// a partition without an end, the parts, the file. Nothing was written then, but where the system refused it a part of the text
-/// may stand beside the manifest's place.
-#[tactic(auto, using(crate::proofs::Placed::left_nothing, crate::proofs::Placed::left_there, crate::proofs::Placed::all_made))]
+/// a partition without an end, the parts, a log of which a note is told, the file. Nothing was written then, but where the system
+/// refused it a part of the text may stand beside the manifest's place.
+#[tactic(auto, using(crate::proofs::Placed::left_nothing, crate::proofs::Placed::left_there, crate::proofs::Placed::all_made, crate::proofs::InitRefused::there_first, crate::proofs::InitRefused::not_made, crate::proofs::InitRefused::not_put))]
 pub fn init<D: DiskMut, R: Read>(
     alloc: Global,
     disk: &mut D,
@@ -52,6 +53,7 @@ pub fn init<D: DiskMut, R: Read>(
     ensures ok { IfOk result (λ made. (spec : SpecFields) × IsManifestFor given.entry (D.holds disk.old) (R.remaining input.old) (R.remaining input.new) spec
         × IsManifestPlaced (D.holds disk.old) given.entry.folder.now spec (D.holds disk.new) × (string_bytes made.line ≡ wrote_line spec)) }
     ensures err { OnErr result ((text : List ℕ) × IsLeft (D.holds disk.old) (manifest_path given.entry.folder.now) text (D.holds disk.new)) }
+    ensures refused { IfErr result (RefusesInit given.entry (D.holds disk.old) (R.remaining input.old) (R.remaining input.new)) }
 {
     let path = manifest_path(alloc, given.folder)?;
     if disk.stands(path.as_str()) {
@@ -71,7 +73,8 @@ fn manifest_of<D: Disk, R: Read>(
     given: Given<'_>,
     input: &mut R,
 ) -> Result<Manifest, InitFault>
-    ensures { IfOk result (λ manifest. IsManifestFor given.entry (D.holds disk.now) (R.remaining input.old) (R.remaining input.new) manifest.spec) }
+    ensures ok { IfOk result (λ manifest. IsManifestFor given.entry (D.holds disk.now) (R.remaining input.old) (R.remaining input.new) manifest.spec) }
+    ensures refused { IfErr result (RefusesMaking given.entry (D.holds disk.now) (R.remaining input.old) (R.remaining input.new)) }
 {
     let apps = read_apps(alloc, given.apps)?;
     let logs = Logs {

@@ -1,7 +1,8 @@
 //! Writing the manifest, whole or not at all.
 
-ghost use Rattle.std.specs.Prelude.{OnOk, OnErr, string_bytes};
+ghost use Rattle.std.specs.Prelude.{IfErr, OnOk, OnErr, string_bytes};
 ghost use Rattle.eos_disk.specs.Putting.{IsPlaced, IsLeft};
+ghost use Rattle.eos_commands.specs.InitRefusals.{IsUnput};
 
 use crate::init_fault::InitFault;
 use eos_disk::{ChangeFault, DiskMut, put_file};
@@ -16,6 +17,7 @@ pub(crate) fn write_manifest<D: DiskMut>(
 ) -> Result<(), InitFault>
     ensures ok { OnOk result (IsPlaced (D.holds disk.old) (string_bytes path) text.now (D.holds disk.new)) }
     ensures err { OnErr result (IsLeft (D.holds disk.old) (string_bytes path) text.now (D.holds disk.new)) }
+    ensures refused { IfErr result (IsUnput (string_bytes path)) }
 {
     match put_file(alloc, disk, path.as_str(), text) {
         Ok(()) => Ok(()),
@@ -23,7 +25,9 @@ pub(crate) fn write_manifest<D: DiskMut>(
     }
 }
 
-fn unwritten(path: String, fault: ChangeFault) -> InitFault {
+fn unwritten(path: String, fault: ChangeFault) -> InitFault
+    ensures { IsUnput (string_bytes path) result }
+{
     match fault {
         ChangeFault::OutOfMemory => InitFault::OutOfMemory,
         ChangeFault::ThereAlready => InitFault::ThereAlready(path),

@@ -1,5 +1,12 @@
 //! What is told of copied logs beside their manifest.
 
+ghost use Rattle.std.specs.Prelude.{◌≡◌, ◌⊎◌, IfErr};
+ghost use Rattle.eos_base.specs.Members.{Has};
+ghost use Rattle.eos_disk.specs.Paths.{path_of_end};
+ghost use Rattle.eos_evidence.specs.declared.ends.End.{End as AnEnd};
+ghost use Rattle.eos_commands.specs.InitRefusals.{RefusesBy, RefusesCopy};
+ghost use Rattle.eos_commands.specs.declared.init_fault.InitFault.TheVariants.{OutOfMemory};
+
 use crate::copied::Logs;
 use crate::init_fault::InitFault;
 use crate::lines::{Said, push_of_groups, push_of_lines};
@@ -16,7 +23,9 @@ pub(crate) fn notes_on<D: Disk>(
     spec: &Spec,
     folders: &Sorted<PartitionName>,
     said: &Said,
-) -> Result<Vec<Note>, InitFault> {
+) -> Result<Vec<Note>, InitFault>
+    ensures { IfErr result (λ why. (why ≡ OutOfMemory) ⊎ ((e : AnEnd) × Has spec.now.ends e × RefusesBy (RefusesCopy (D.holds logs.now.disk.now) (path_of_end logs.now.folder.now e)) why)) }
+{
     let mut notes = Vec::new(logs.alloc);
     let apps = spec.apps();
     match file {
@@ -39,7 +48,9 @@ fn note_on<D: Disk>(
     logs: &Logs<'_, D>,
     end: &End,
     folders: &Sorted<PartitionName>,
-) -> Result<Option<Note>, InitFault> {
+) -> Result<Option<Note>, InitFault>
+    ensures { IfErr result (RefusesBy (RefusesCopy (D.holds logs.now.disk.now) (path_of_end logs.now.folder.now end.now))) }
+{
     let name = PartitionName {
         topic: end.topic.clone()?,
         partition: end.partition,

@@ -1,14 +1,19 @@
-use Rattle.std.proofs.Common.{◌≡◌, true, false, string_bytes, sym, ◌∙◌}
+use Rattle.std.proofs.Common.{◌≡◌, ℕ, List, true, false, string_bytes, sym, ◌∙◌, subst}
+use Rattle.eos_disk.specs.Refusals.{RefusesFile}
 use Rattle.eos_commands.specs.Making.{is_standard}
 use Rattle.eos_commands.proofs.GivenTexts.{text_of_input, text_of_file}
 use Rattle.eos_commands.proofs.given.read_text.Goals as goal
 
-pub returns-then-not-is_standard : goal.returns-then-not-is_standard
-returns-then-not-is_standard g c =
+pub returns-then-not-is_standard-clause-ok : goal.returns-then-not-is_standard-clause-ok
+returns-then-not-is_standard-clause-ok g c =
     let not_so : is_standard c.args.path.now ≡ false = sym c.is_standard.ensures ∙ c.if-not-is_standard.true in
-    text_of_file (g.D.Disk.holds c.args.logs.now.disk.now) c.args.path.now (string_bytes c.in_ok-own.own) _ _ c.in_ok-read_file.field-0 not_so c.in_ok-own.ensures.ok c.in_ok-read_file.ensures
+    text_of_file (g.D.Disk.holds c.args.logs.now.disk.now) c.args.path.now (string_bytes c.in_ok-own.own) _ _ c.in_ok-read_file.field-0 not_so c.in_ok-own.ensures.ok c.in_ok-read_file.ensures.ok
 
-pub returns-in-Ok : goal.returns-in-Ok
-returns-in-Ok g c =
+pub returns-in-Ok-clause-ok : goal.returns-in-Ok-clause-ok
+returns-in-Ok-clause-ok g c =
     let so : is_standard c.args.path.now ≡ true = sym c.is_standard.ensures ∙ c.if-not-is_standard.false in
     text_of_input (g.D.Disk.holds c.args.logs.now.disk.now) c.args.path.now _ _ c.in-Ok.bytes so c.in-Ok.ensures.bytes c.in-Ok.ensures.end
+
+pub returns-in-Err-clause-refused : goal.returns-in-Err-clause-refused
+returns-in-Err-clause-refused g c =
+    (subst (λ (path : List ℕ). RefusesFile path c.refusal_of.result) c.in_ok-own.ensures.ok c.refusal_of.ensures.path, c.refusal_of.ensures.so _)
