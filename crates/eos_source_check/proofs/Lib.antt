@@ -19,3 +19,5 @@ pub mod KeptNotes
 pub mod KeptTallies
 pub mod TimesAgain
 pub mod RefusalsTold
+pub mod RisingTimes
+pub mod EachTimes

@@ -1,6 +1,7 @@
 -- When records of a source's partition were written: the times that the batches say in which they stand, of its segments as they are read
 -- again. Of a segment that is a fold no bytes are kept, and no times; one in which none of the offsets lies isn't read.
-use Rattle.std.specs.Prelude.{◌≡◌, ◌⊎◌, ℕ, ℤ, suc, ◌+◌, List, [], ◌∷◌, ◌++◌, length, Option, None, Some, Bool, true, false, ◌&&◌, ◌||◌, nat_le, nat_lt}
+use Rattle.std.specs.Prelude.{◌≡◌, ◌⊎◌, ℕ, ℤ, suc, ◌+◌, List, [], ◌∷◌, ◌++◌, length, Option, None, Some, Bool, true, false, ◌&&◌, ◌||◌, ◌==◌, nat_le, nat_lt, if◌then◌else◌}
+use Rattle.std.specs.List.{Contains}
 use Rattle.eos_base.specs.declared.partition_name.PartitionName.{PartitionName}
 use Rattle.eos_evidence.specs.declared.partition.Partition.{Partition}
 use Rattle.eos_evidence.specs.declared.segment.Segment.{Segment}
@@ -49,3 +50,20 @@ abbrev pub AreTimesNamed : (ℕ → Known) → ℕ → List Partition → Partit
 AreTimesNamed known piece [] name offsets times = times ≡ []
 AreTimesNamed known piece (p ∷ ps) name offsets times =
     AreTimesIf (is_named name p) (AreTimesAgain known piece p.segments offsets times) (AreTimesNamed known (piece + length p.segments) ps name offsets times)
+
+-- ---- each by itself
+
+-- the first of these times at this offset
+abbrev pub first_at : ℕ → List (ℕ × ℤ) → Option ℤ
+first_at offset [] = None
+first_at offset (t ∷ ts) = if t.0 == offset then Some t.1 else first_at offset ts
+
+-- at this offset they have the time that a reading for it alone gives
+pub record IsTimeAlone (known : ℕ → Known) (partitions : List Partition) (name : PartitionName) (offset : ℕ) (times : List (ℕ × ℤ)) : Type 0 where
+  pub alone : List (ℕ × ℤ)
+  pub are : AreTimesNamed known 0 partitions name (offset ∷ []) alone
+  pub same : first_at offset times ≡ first_at offset alone
+
+-- so at each of these offsets
+pub record AreTimesEach (known : ℕ → Known) (partitions : List Partition) (name : PartitionName) (offsets : List ℕ) (times : List (ℕ × ℤ)) : Type 0 where
+  pub each : (offset : ℕ) → Contains offsets offset → IsTimeAlone known partitions name offset times

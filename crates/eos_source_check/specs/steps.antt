@@ -3,3 +3,5 @@ pub mod Apart
 pub mod InPartitions
 pub mod Earned
 pub mod FaultsAgain
+pub mod Rising
+pub mod Each

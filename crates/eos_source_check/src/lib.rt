@@ -12,6 +12,7 @@
 
 mod again;
 mod all;
+mod each;
 mod fault;
 mod judged;
 mod kept;
@@ -22,9 +23,11 @@ pub mod laws;
 pub mod list_laws;
 mod listed;
 mod partitions;
+mod rising;
 mod times;
 
 pub use all::{all_faults, of_partitions};
+pub use each::times_each;
 pub use fault::Unlisted;
 pub use judged::{Judged, judge_source};
 pub use later::later_faults;

@@ -21,21 +21,21 @@ use std::alloc::{AllocError, Global};
 
 /// The number of a piece, its name, and where the next one of its partition begins.
 #[derive(Clone, Copy)]
-struct Named<'a> {
-    piece: u64,
-    name: &'a Segment,
-    next: Option<u64>,
+pub(crate) struct Named<'a> {
+    pub piece: u64,
+    pub name: &'a Segment,
+    pub next: Option<u64>,
 }
 
 /// The segment's offset, which is its name.
-fn base_of(name: &Segment) -> u64
+pub(crate) fn base_of(name: &Segment) -> u64
     ensures { result ≡ base_of name.now }
 {
     name.base.unsigned_abs()
 }
 
 /// Where the segment behind this one begins.
-fn begins_next(names: &[Segment], i: usize) -> Option<u64>
+pub(crate) fn begins_next(names: &[Segment], i: usize) -> Option<u64>
     requires { i < length names.now }
     ensures { result ≡ begins_next (drop (i + 1) names.now) }
 {
@@ -102,7 +102,7 @@ fn segment_of(name: &Segment, bytes: Bytes) -> Result<Segment, AllocError>
 }
 
 /// The segment, as it is read now; none where it is a fold.
-fn log_again<S: Source>(
+pub(crate) fn log_again<S: Source>(
     alloc: Global,
     source: &S,
     named: Named<'_>,
@@ -165,7 +165,7 @@ fn times_again<S: Source>(
     Ok(times)
 }
 
-fn is_named(partition: &Partition, name: &PartitionName) -> bool
+pub(crate) fn is_named(partition: &Partition, name: &PartitionName) -> bool
     ensures { result ≡ is_named name.now partition.now }
 {
     let end = &partition.end;

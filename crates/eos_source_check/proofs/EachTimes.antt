@@ -1,0 +1,255 @@
+-- Times at many offsets, each of them as it is where it is read for alone.
+use Rattle.std.proofs.Common.{◌≡◌, ◌<◌, ◌≤◌, ◌||◌, ◌==◌, ℕ, ℤ, zero, suc, ◌+◌, ◌-◌, List, [], ◌∷◌, ◌++◌, length, take, drop, get_or, flat_map, nat_le, Option, Some, None, Bool, true, false, if◌then◌else◌, refl, sym, ap, subst, ◌∙◌, arith, inl, inr}
+use Rattle.std.specs.List.{Contains}
+use Rattle.std.specs.Option.{option_or}
+use Rattle.std.proofs.lemmas.Bool.{both_ways, eqb-true, ne_eqb, eq-eqb, lt-leb, le-leb, lt-ltb, le-ltb, and_from, and_parts}
+use Rattle.std.proofs.lemmas.List.{take-append-drop, get_or-take, get_or-drop, length-take-le, length-drop}
+use Rattle.eos_base.specs.declared.partition_name.PartitionName.{PartitionName}
+use Rattle.eos_evidence.specs.declared.partition.Partition.{Partition}
+use Rattle.eos_evidence.specs.declared.segment.Segment.{Segment}
+use Rattle.eos_fold.specs.Fronts.{base_of}
+use Rattle.eos_sought.specs.declared.wanted.Standing.{Standing}
+use Rattle.eos_sought.specs.declared.wanted.Wanted.TheVariants.{Holding}
+use Rattle.eos_sought.specs.Timed.{timed, timed_by, all_timed_by, AreTimesIn}
+use Rattle.eos_sought.specs.Times.{time_in_bytes}
+use Rattle.eos_sought.specs.Wanted.{is_wanted}
+use Rattle.eos_source.specs.Said.{Known}
+use Rattle.eos_source_check.specs.Again.{IsLogAgain}
+use Rattle.eos_source_check.specs.Times.{begins_next, is_below, some_lie_in, AreTimesOf, AreTimesNamed, first_at, AreTimesEach}
+use Rattle.eos_source_check.specs.steps.Rising.{AreBelow, AreFrom}
+use Rattle.eos_source_check.specs.steps.Each.{among, lies_in, EndsAt, AreEachOf, AreEachAgain}
+use Rattle.eos_source_check.proofs.TimesAgain.{Passed, none_passed, one_passed, all_passed, IsAhead, named, all_ahead}
+
+-- ---- the first time at an offset
+
+first_append : (o : ℕ) (xs ys : List (ℕ × ℤ)) → first_at o (xs ++ ys) ≡ option_or (first_at o xs) (first_at o ys)
+first_append o [] ys = refl
+first_append o (x ∷ xs) ys = go (x.0 == o) (first_append o xs ys)
+  where
+    go : (b : Bool) → first_at o (xs ++ ys) ≡ option_or (first_at o xs) (first_at o ys) → (if b then Some x.1 else first_at o (xs ++ ys)) ≡ option_or (if b then Some x.1 else first_at o xs) (first_at o ys)
+    go true later = refl
+    go false later = later
+
+-- what two lists have at an offset they have as well behind others that agree there
+first_joined : (o : ℕ) (xs ys us vs : List (ℕ × ℤ)) → first_at o xs ≡ first_at o us → first_at o ys ≡ first_at o vs → first_at o (xs ++ ys) ≡ first_at o (us ++ vs)
+first_joined o xs ys us vs front back =
+    first_append o xs ys ∙ (ap (λ (w : Option ℤ). option_or w (first_at o ys)) front ∙ (ap (λ (w : Option ℤ). option_or (first_at o us) w) back ∙ sym (first_append o us vs)))
+
+-- ---- a batch, and a segment
+
+-- what is read for one offset
+abbrev one_if : Bool → List (ℕ × ℤ) → List (ℕ × ℤ)
+one_if true times = times
+one_if false times = []
+
+module _ (bytes : List ℕ) (o : ℕ) where
+  -- the time of another offset isn't this one's
+  elsewhere : (s : Standing) (x : ℕ) → (x == o) ≡ false → first_at o (timed_by bytes s x) ≡ None
+  elsewhere s x ne = go (is_wanted (Holding x) s.head)
+    where
+      told : (time : Option ℤ) → first_at o (timed x time) ≡ None
+      told None = refl
+      told (Some t) = ap (λ (b : Bool). if b then Some t else first_at o []) ne
+
+      go : (b : Bool) → first_at o (if b then timed x (time_in_bytes bytes s.byte (x - s.head.offset)) else []) ≡ None
+      go true = told (time_in_bytes bytes s.byte (x - s.head.offset))
+      go false = refl
+
+  in_batch : (s : Standing) (xs : List ℕ) → first_at o (all_timed_by bytes xs s) ≡ first_at o (one_if (among o xs) (timed_by bytes s o))
+  in_batch s [] = refl
+  in_batch s (x ∷ xs) = first_append o (timed_by bytes s x) (all_timed_by bytes xs s) ∙ go (x == o) refl (in_batch s xs)
+    where
+      again : (w : Option ℤ) (b : Bool) (us : List (ℕ × ℤ)) → w ≡ first_at o us → option_or w (first_at o (one_if b us)) ≡ w
+      again None true us e = sym e
+      again None false us e = refl
+      again (Some t) b us e = refl
+
+      go : (b : Bool) → (x == o) ≡ b → first_at o (all_timed_by bytes xs s) ≡ first_at o (one_if (among o xs) (timed_by bytes s o))
+          → option_or (first_at o (timed_by bytes s x)) (first_at o (all_timed_by bytes xs s)) ≡ first_at o (one_if (b || among o xs) (timed_by bytes s o))
+      go true e later =
+          let same : first_at o (timed_by bytes s x) ≡ first_at o (timed_by bytes s o) = ap (λ (y : ℕ). first_at o (timed_by bytes s y)) (eqb-true x o e) in
+          ap (λ (w : Option ℤ). option_or w (first_at o (all_timed_by bytes xs s))) same
+          ∙ (ap (λ (w : Option ℤ). option_or (first_at o (timed_by bytes s o)) w) later ∙ again (first_at o (timed_by bytes s o)) (among o xs) (timed_by bytes s o) refl)
+      go false e later = ap (λ (w : Option ℤ). option_or w (first_at o (all_timed_by bytes xs s))) (elsewhere s x e) ∙ later
+
+  -- the offset is among them: they have the time that is read for it alone
+  in_batches : (xs : List ℕ) → among o xs ≡ true → (all : List Standing) → first_at o (flat_map (all_timed_by bytes xs) all) ≡ first_at o (flat_map (all_timed_by bytes (o ∷ [])) all)
+  in_batches xs here [] = refl
+  in_batches xs here (s ∷ ss) =
+      let self : among o (o ∷ []) ≡ true = ap (λ (b : Bool). b || false) (eq-eqb o o refl) in
+      let p : first_at o (all_timed_by bytes xs s) ≡ first_at o (timed_by bytes s o) = in_batch s xs ∙ ap (λ (b : Bool). first_at o (one_if b (timed_by bytes s o))) here in
+      let q : first_at o (all_timed_by bytes (o ∷ []) s) ≡ first_at o (timed_by bytes s o) = in_batch s (o ∷ []) ∙ ap (λ (b : Bool). first_at o (one_if b (timed_by bytes s o))) self in
+      first_joined o (all_timed_by bytes xs s) (flat_map (all_timed_by bytes xs) ss) (all_timed_by bytes (o ∷ []) s) (flat_map (all_timed_by bytes (o ∷ [])) ss) (p ∙ sym q) (in_batches xs here ss)
+
+  -- it isn't: they have none of it
+  none_in_batches : (xs : List ℕ) → among o xs ≡ false → (all : List Standing) → first_at o (flat_map (all_timed_by bytes xs) all) ≡ None
+  none_in_batches xs absent [] = refl
+  none_in_batches xs absent (s ∷ ss) =
+      let p : first_at o (all_timed_by bytes xs s) ≡ first_at o [] = in_batch s xs ∙ ap (λ (b : Bool). first_at o (one_if b (timed_by bytes s o))) absent in
+      first_joined o (all_timed_by bytes xs s) (flat_map (all_timed_by bytes xs) ss) [] [] p (none_in_batches xs absent ss)
+
+-- ---- the offsets that lie in a segment
+
+among_append : (o : ℕ) (xs ys : List ℕ) → among o (xs ++ ys) ≡ (among o xs || among o ys)
+among_append o [] ys = refl
+among_append o (x ∷ xs) ys = go (x == o) (among_append o xs ys)
+  where
+    go : (b : Bool) → among o (xs ++ ys) ≡ (among o xs || among o ys) → (b || among o (xs ++ ys)) ≡ ((b || among o xs) || among o ys)
+    go true later = refl
+    go false later = later
+
+none_among : (o : ℕ) (xs : List ℕ) → ((k : ℕ) → k < length xs → (get_or xs k 0 == o) ≡ false) → among o xs ≡ false
+none_among o [] h = refl
+none_among o (x ∷ xs) h =
+    let out : (x == o) ≡ false = h 0 (omega arith) in
+    ap (λ (b : Bool). b || among o xs) out ∙ none_among o xs (λ k lt. h (suc k) (omega (arith, lt)))
+
+pub contained : (o : ℕ) (xs : List ℕ) → Contains xs o → among o xs ≡ true
+contained o [] h = absurd (omega (arith, h.1))
+contained o (x ∷ xs) h = go h.0 h.1 h.2 (contained o xs)
+  where
+    later : (b : Bool) → among o xs ≡ true → (b || among o xs) ≡ true
+    later true e = refl
+    later false e = e
+
+    go : (k : ℕ) → k < length (x ∷ xs) → get_or (x ∷ xs) k o ≡ o → (Contains xs o → among o xs ≡ true) → ((x == o) || among o xs) ≡ true
+    go zero lt is rest = ap (λ (b : Bool). b || among o xs) (eq-eqb x o is)
+    go (suc k) lt is rest = later (x == o) (rest (k, omega (arith, lt), is))
+
+-- a test tells these apart
+apart : (p : ℕ → Bool) (x o : ℕ) (b : Bool) → p x ≡ b → p o ≡ (if b then false else true) → (x == o) ≡ false
+apart p x o true px po = ne_eqb x o (λ e. both_ways (p o) po (sym (ap p e) ∙ px))
+apart p x o false px po = ne_eqb x o (λ e. both_ways (p x) px (ap p e ∙ po))
+
+module _ (offsets : List ℕ) (high low base : ℕ) (next : Option ℕ) (o : ℕ) (inside : high ≤ length offsets) (ends : EndsAt offsets high next) (fewer : low ≤ length (take high offsets)) (below : AreBelow (take high offsets) low base) (from : AreFrom (take high offsets) low base) where
+  split : among o offsets ≡ ((among o (take low (take high offsets)) || among o (drop low (take high offsets))) || among o (drop high offsets))
+  split =
+      ap (among o) (sym (take-append-drop high offsets))
+      ∙ (among_append o (take high offsets) (drop high offsets)
+      ∙ ap (λ (b : Bool). b || among o (drop high offsets)) (ap (among o) (sym (take-append-drop low (take high offsets))) ∙ among_append o (take low (take high offsets)) (drop low (take high offsets))))
+
+  front_of : nat_le base o ≡ true → among o (take low (take high offsets)) ≡ false
+  front_of le = none_among o (take low (take high offsets))
+      (λ k lt.
+      let size : length (take low (take high offsets)) ≡ low = length-take-le low (take high offsets) fewer in
+      let short : k < low = omega (arith, lt, size) in
+      let there : get_or (take low (take high offsets)) k 0 ≡ get_or (take high offsets) k 0 = get_or-take low (take high offsets) k 0 short in
+      ap (λ (x : ℕ). x == o) there ∙ apart (λ x. nat_le base x) (get_or (take high offsets) k 0) o false (lt-leb base (get_or (take high offsets) k 0) (below k short)) le)
+
+  back_of : is_below next o ≡ true → among o (drop high offsets) ≡ false
+  back_of lt_next = none_among o (drop high offsets)
+      (λ k lt.
+      let size : length (drop high offsets) ≡ length offsets - high = length-drop high offsets in
+      let there : get_or (drop high offsets) k 0 ≡ get_or offsets (high + k) 0 = get_or-drop high offsets k 0 in
+      let within : high + k < length offsets = omega (arith, lt, size, inside) in
+      ap (λ (x : ℕ). x == o) there ∙ apart (is_below next) (get_or offsets (high + k) 0) o false (ends.1 (high + k) (omega arith) within) lt_next)
+
+  middle_of : lies_in base next o ≡ false → among o (drop low (take high offsets)) ≡ false
+  middle_of out = none_among o (drop low (take high offsets))
+      (λ k lt.
+      let size : length (drop low (take high offsets)) ≡ length (take high offsets) - low = length-drop low (take high offsets) in
+      let all : length (take high offsets) ≡ high = length-take-le high offsets inside in
+      let within : low + k < length (take high offsets) = omega (arith, lt, size, fewer) in
+      let at : low + k < high = omega (arith, within, all) in
+      let there : get_or (drop low (take high offsets)) k 0 ≡ get_or (take high offsets) (low + k) 0 = get_or-drop low (take high offsets) k 0 in
+      let same : get_or (take high offsets) (low + k) 0 ≡ get_or offsets (low + k) 0 = get_or-take high offsets (low + k) 0 at in
+      let in_next : is_below next (get_or (take high offsets) (low + k) 0) ≡ true = ap (is_below next) same ∙ ends.0 (low + k) at in
+      let in_base : nat_le base (get_or (take high offsets) (low + k) 0) ≡ true = le-leb base (get_or (take high offsets) (low + k) 0) (from (low + k) (omega arith) within) in
+      ap (λ (x : ℕ). x == o) there
+      ∙ apart (lies_in base next) (get_or (take high offsets) (low + k) 0) o true (and_from (nat_le base (get_or (take high offsets) (low + k) 0)) (is_below next (get_or (take high offsets) (low + k) 0)) in_base in_next) out)
+
+  by_test : (b : Bool) → lies_in base next o ≡ b → among o offsets ≡ true → among o (drop low (take high offsets)) ≡ b
+  by_test false isnt here = middle_of isnt
+  by_test true is_so here =
+      let parts = and_parts (nat_le base o) (is_below next o) is_so in
+      only (among o (take low (take high offsets))) (among o (drop low (take high offsets))) (among o (drop high offsets)) (front_of parts.0) (back_of parts.1) (sym split ∙ here)
+    where
+      only : (a b c : Bool) → a ≡ false → c ≡ false → ((a || b) || c) ≡ true → b ≡ true
+      only false true false p q r = refl
+      only false false false p q r = absurd cc
+      only true b c p q r = absurd cc
+      only false b true p q r = absurd cc
+
+  pub lying : among o offsets ≡ true → among o (drop low (take high offsets)) ≡ lies_in base next o
+  lying here = by_test (lies_in base next o) refl here
+
+pub lying_by : (offsets before lies : List ℕ) (high low base : ℕ) (next : Option ℕ) → high ≤ length offsets → EndsAt offsets high next → before ≡ take high offsets → low ≤ length before → AreBelow before low base → AreFrom before low base
+    → lies ≡ drop low before → (o : ℕ) → among o offsets ≡ true → among o lies ≡ lies_in base next o
+lying_by offsets before lies high low base next inside ends front fewer below from rest = λ o here.
+    let l : low ≤ length (take high offsets) = subst (λ (xs : List ℕ). low ≤ length xs) front fewer in
+    let b : AreBelow (take high offsets) low base = subst (λ (xs : List ℕ). AreBelow xs low base) front below in
+    let f : AreFrom (take high offsets) low base = subst (λ (xs : List ℕ). AreFrom xs low base) front from in
+    ap (among o) (rest ∙ ap (drop low) front) ∙ lying offsets high low base next o inside ends l b f here
+
+pub ends_never : (offsets : List ℕ) (count : ℕ) (next : Option ℕ) → next ≡ None → count ≡ length offsets → EndsAt offsets count next
+ends_never offsets count next is all =
+    subst (EndsAt offsets count) (sym is) ((λ k lt. refl), (λ k le lt. absurd (omega (arith, le, lt, all))))
+
+pub ends_there : (offsets : List ℕ) (count end : ℕ) (next : Option ℕ) → next ≡ Some end → AreBelow offsets count end → AreFrom offsets count end → EndsAt offsets count next
+ends_there offsets count end next is below from =
+    subst (EndsAt offsets count) (sym is) ((λ k lt. lt-ltb (get_or offsets k 0) end (below k lt)), (λ k le lt. le-ltb (get_or offsets k 0) end (from k le lt)))
+
+-- ---- the times of a segment
+
+module _ (known : Known) (name : Segment) (next : Option ℕ) (offsets lying : List ℕ) (which : (o : ℕ) → among o offsets ≡ true → among o lying ≡ lies_in (base_of name) next o) where
+  lies_alone : (o : ℕ) → lies_in (base_of name) next o ≡ false → some_lie_in (base_of name) next (o ∷ []) ≡ false
+  lies_alone o out = ap (λ (b : Bool). b || false) out
+
+  -- none lies there
+  pub each_of_none : (times : List (ℕ × ℤ)) → lying ≡ [] → times ≡ [] → AreEachOf known name next offsets times
+  each_of_none times empty none = λ o here.
+      let out : lies_in (base_of name) next o ≡ false = sym (which o here) ∙ ap (among o) empty in
+      ([], inr (inr (lies_alone o out), refl), ap (first_at o) none)
+
+  pub each_of_fold : (times : List (ℕ × ℤ)) → known.log ≡ false → times ≡ [] → AreEachOf known name next offsets times
+  each_of_fold times fold none = λ o here. ([], inr (inl fold, refl), ap (first_at o) none)
+
+  by_lying : (segment : Segment) (times : List (ℕ × ℤ)) → IsLogAgain known name segment → AreTimesIn segment lying times → (o : ℕ) → among o offsets ≡ true → (b : Bool) → lies_in (base_of name) next o ≡ b
+      → (alone : List (ℕ × ℤ)) × AreTimesOf known name next (o ∷ []) alone × (first_at o times ≡ first_at o alone)
+  by_lying segment times again are o here true is_so =
+      let alone = flat_map (all_timed_by segment.bytes (o ∷ [])) are.all in
+      let reads : AreTimesIn segment (o ∷ []) alone = record { all = are.all; run = are.run; whole = are.whole; are = refl } in
+      (alone, inl (segment, again, reads), ap (first_at o) are.are ∙ in_batches segment.bytes o lying (which o here ∙ is_so) are.all)
+  by_lying segment times again are o here false isnt =
+      ([], inr (inr (lies_alone o isnt), refl), ap (first_at o) are.are ∙ none_in_batches segment.bytes o lying (which o here ∙ isnt) are.all)
+
+  pub each_of_log : (segment : Segment) (times : List (ℕ × ℤ)) → IsLogAgain known name segment → AreTimesIn segment lying times → AreEachOf known name next offsets times
+  each_of_log segment times again are = λ o here. by_lying segment times again are o here (lies_in (base_of name) next o) refl
+
+-- ---- of a partition
+
+-- so many segments were passed
+abbrev pub EachPassed : (ℕ → Known) → ℕ → List Segment → List ℕ → ℕ → List (ℕ × ℤ) → Type 0
+EachPassed known first names offsets i times = (o : ℕ) → among o offsets ≡ true → (before : List (ℕ × ℤ)) × Passed known first names (o ∷ []) i before × (first_at o times ≡ first_at o before)
+
+pub each_begins : (known : ℕ → Known) (first : ℕ) (names : List Segment) (offsets : List ℕ) (times : List (ℕ × ℤ)) → times ≡ [] → EachPassed known first names offsets 0 times
+each_begins known first names offsets times none = λ o here. ([], none_passed known first names (o ∷ []) [] refl, ap (first_at o) none)
+
+pub each_passed : (known : ℕ → Known) (first : ℕ) (names : List Segment) (offsets : List ℕ) (i : ℕ) (name : Segment) (next : Option ℕ) (before here after : List (ℕ × ℤ)) → i < length names → name ≡ get_or names i name
+    → next ≡ begins_next (drop (i + 1) names) → AreEachOf (known (first + i)) name next offsets here → after ≡ before ++ here → EachPassed known first names offsets i before → EachPassed known first names offsets (i + 1) after
+each_passed known first names offsets i name next before here after lt is behind of pushed passed = λ o among_them.
+    let p = passed o among_them in
+    let q = of o among_them in
+    (p.0 ++ q.0, one_passed known first names (o ∷ []) i name next p.0 q.0 (p.0 ++ q.0) lt is behind q.1 refl p.1, ap (first_at o) pushed ∙ first_joined o before here p.0 q.0 p.2 q.2)
+
+pub each_ends : (known : ℕ → Known) (first : ℕ) (names segments : List Segment) (offsets : List ℕ) (i : ℕ) (times : List (ℕ × ℤ)) → names ≡ segments → length names ≤ i → EachPassed known first names offsets i times
+    → AreEachAgain known first segments offsets times
+each_ends known first names segments offsets i times same le passed = λ o here.
+    let p = passed o here in
+    (p.0, all_passed known first names segments (o ∷ []) i p.0 same le p.1, p.2)
+
+-- ---- of the partition that is named
+
+pub each_named : (known : ℕ → Known) (shapes partitions : List Partition) (name : PartitionName) (offsets : List ℕ) (times : List (ℕ × ℤ)) → partitions ≡ shapes
+    → ((o : ℕ) → among o offsets ≡ true → (alone : List (ℕ × ℤ)) × AreTimesNamed known 0 partitions name (o ∷ []) alone × (first_at o times ≡ first_at o alone)) → AreTimesEach known shapes name offsets times
+each_named known shapes partitions name offsets times same h = record {
+  each = λ o there.
+      let p = h o (contained o offsets there) in
+      record { alone = p.0; are = subst (λ (ps : List Partition). AreTimesNamed known 0 ps name (o ∷ []) p.0) same p.1; same = p.2 };
+}
+
+pub none_named : (known : ℕ → Known) (shapes partitions : List Partition) (name : PartitionName) (offsets : List ℕ) (first i : ℕ) (times : List (ℕ × ℤ)) → partitions ≡ shapes → length partitions ≤ i → times ≡ []
+    → ((o : ℕ) → IsAhead known partitions name (o ∷ []) first i) → AreTimesEach known shapes name offsets times
+none_named known shapes partitions name offsets first i times same le none ahead = record {
+  each = λ o there. record { alone = []; are = all_ahead known shapes partitions name (o ∷ []) first i [] same le refl (ahead o); same = ap (first_at o) none };
+}
