@@ -60,18 +60,17 @@ time_is known partitions place name offsets times time named alone are is =
       is = is;
     }
 
-pub are_read : (known : ℕ → Known) (partitions : List Partition) (faults few : List Fault) (dates : Dates) (times : List Timestamps) → few ≡ take 10 faults → dates.read ≡ true → dates.of_faults ≡ times
-    → AreTimesOfFaults known partitions few times → AreDates known partitions faults dates
-are_read known partitions faults few dates times first is same h =
+pub are_read : (known : ℕ → Known) (partitions : List Partition) (faults : List Fault) (dates : Dates) (times : List Timestamps) → dates.read ≡ true → dates.of_faults ≡ times
+    → AreTimesOfFaults known partitions faults times → AreDates known partitions faults dates
+are_read known partitions faults dates times is same h =
     record {
-      are = subst (λ (b : Bool). AreReadIf b (AreTimesOfFaults known partitions (take 10 faults) dates.of_faults) dates.of_faults) (sym is)
-          (subst (λ (fs : List Fault). AreTimesOfFaults known partitions fs dates.of_faults) first
-          (subst (λ (ts : List Timestamps). AreTimesOfFaults known partitions few ts) (sym same) h));
+      are = subst (λ (b : Bool). AreReadIf b (AreTimesOfFaults known partitions faults dates.of_faults) dates.of_faults) (sym is)
+          (subst (λ (ts : List Timestamps). AreTimesOfFaults known partitions faults ts) (sym same) h);
     }
 
 pub are_unread : (known : ℕ → Known) (partitions : List Partition) (faults : List Fault) (dates : Dates) → dates.read ≡ false → dates.of_faults ≡ [] → AreDates known partitions faults dates
 are_unread known partitions faults dates is none =
-    record { are = subst (λ (b : Bool). AreReadIf b (AreTimesOfFaults known partitions (take 10 faults) dates.of_faults) dates.of_faults) (sym is) none }
+    record { are = subst (λ (b : Bool). AreReadIf b (AreTimesOfFaults known partitions faults dates.of_faults) dates.of_faults) (sym is) none }
 
 -- ---- the report that has them
 

@@ -1,6 +1,6 @@
 -- When the records were written that faults name, as a report says it beside their places: as the batches say it in which they stand,
 -- in their partitions' segments as these are read again.
-use Rattle.std.specs.Prelude.{◌≡◌, ⊤, ℕ, ℤ, List, [], ◌∷◌, ◌==◌, Bool, true, false, Option, None, Some, option_map, codes, take, string_bytes, if◌then◌else◌}
+use Rattle.std.specs.Prelude.{◌≡◌, ⊤, ℕ, ℤ, List, [], ◌∷◌, ◌==◌, Bool, true, false, Option, None, Some, option_map, codes, string_bytes, if◌then◌else◌}
 use Rattle.std.specs.List.{Contains}
 use Rattle.eos_base.specs.declared.partition_name.PartitionName.{PartitionName}
 use Rattle.eos_verdict.specs.declared.verdict.Fault.{Fault}
@@ -77,9 +77,9 @@ abbrev pub AreReadIf : Bool → Type 0 → List Timestamps → Type 0
 AreReadIf true AreTheirs times = AreTheirs
 AreReadIf false AreTheirs times = times ≡ []
 
--- those of the first ten, or none where they couldn't be read
+-- those of all, or none where they couldn't be read
 pub record AreDates (known : ℕ → Known) (partitions : List Partition) (faults : List Fault) (dates : Dates) : Type 0 where
-  pub are : AreReadIf dates.read (AreTimesOfFaults known partitions (take 10 faults) dates.of_faults) dates.of_faults
+  pub are : AreReadIf dates.read (AreTimesOfFaults known partitions faults dates.of_faults) dates.of_faults
 
 -- ---- the report that has them
 
@@ -90,7 +90,7 @@ pub record IsTextWith (about : About) (faults : List Fault) (dates : Dates) (tex
   pub tallies : Tallies
   pub says : IsReportText about verdict faults dates notes tallies text
 
--- a report in which the times are those of the records that its first faults name
+-- a report in which the times are those of the records that its faults name
 pub record IsDatedText (known : ℕ → Known) (partitions : List Partition) (about : About) (text : List ℕ) : Type 0 where
   pub faults : List Fault
   pub dates : Dates

@@ -1,2 +1,3 @@
 -- What only private functions promise: steps towards what the public calls say.
+pub mod Tables
 pub mod Tellings

@@ -1,13 +1,16 @@
 //! When the records were written that the faults of a report name. Of what is kept of a log no times are left, so the segments in which
 //! they lie are read a second time.
 
-ghost use Rattle.std.specs.Prelude.{◌≡◌, ◌∷◌, [], false, take, IfOk, option_map};
+ghost use Rattle.std.specs.Prelude.{◌≡◌, ◌∷◌, [], false, IfOk, option_map};
+ghost use Rattle.std.specs.List.{All};
 ghost use Rattle.eos_claims.specs.Plain.{plain_source};
 ghost use Rattle.eos_source.specs.Said.{known_by};
 ghost use Rattle.eos_checking.specs.Dates.{record_of, claim_of, time_at, IsTimeOf, IsTimeIf, AreTimesOfFault, AreTimesOfFaults, AreDates};
+ghost use Rattle.eos_checking.specs.steps.Tables.{IsTable};
 
 use crate::check::Wanted;
 use crate::source::Pieces;
+use crate::tables::{Table, tables_of, time_told};
 use bytes::Bytes;
 use eos_base::{Listed, PartitionName};
 use eos_check::Fault;
@@ -18,9 +21,6 @@ use eos_source_check::{Unlisted, times_named};
 use eos_verdict::LineageFault;
 use std::alloc::{AllocError, Global};
 use std::slice;
-
-/// Of so many faults the records are read: for each a walk over the segments in which they lie.
-const FIRST: usize = 10;
 
 /// The same place, with its name lent.
 fn lent(place: &Place) -> SourceRef<'_>
@@ -34,7 +34,7 @@ fn lent(place: &Place) -> SourceRef<'_>
 }
 
 /// The place at which a fault stands, or of the input that it speaks of.
-fn record_of(fault: &Fault) -> Option<SourceRef<'_>>
+pub(crate) fn record_of(fault: &Fault) -> Option<SourceRef<'_>>
     ensures { option_map plain_source result ≡ record_of fault.now }
 {
     match fault {
@@ -59,7 +59,7 @@ fn record_of(fault: &Fault) -> Option<SourceRef<'_>>
 }
 
 /// The place of the record that has a fault's claim.
-fn claim_of(fault: &Fault) -> Option<SourceRef<'_>>
+pub(crate) fn claim_of(fault: &Fault) -> Option<SourceRef<'_>>
     ensures { option_map plain_source result ≡ claim_of fault.now }
 {
     match fault {
@@ -86,7 +86,7 @@ fn time_at(times: &[(u64, i64)], offset: u64) -> Option<i64>
     None
 }
 
-fn name_of(alloc: Global, place: SourceRef<'_>) -> Result<PartitionName, AllocError>
+pub(crate) fn name_of(alloc: Global, place: SourceRef<'_>) -> Result<PartitionName, AllocError>
     ensures { IfOk result (λ name. name ≡ (plain_source place.entry).partition) }
 {
     let topic = Bytes::copy_from_slice(alloc, place.topic)?;
@@ -102,9 +102,9 @@ fn alone(offset: &u64) -> &[u64]
     slice::from_ref(offset)
 }
 
-/// When the record at a place was written.
+/// When the record at a place was written, by a walk for it alone.
 #[tactic(auto, using(crate::proofs::Dated::time_is))]
-fn time_of<S: Source>(
+fn time_alone<S: Source>(
     alloc: Global,
     pieces: &Pieces<'_, S>,
     place: SourceRef<'_>,
@@ -117,32 +117,52 @@ fn time_of<S: Source>(
     Ok(time_at(times.as_slice(), place.offset))
 }
 
+/// The same, looked up where it was read with others.
+fn time_of<S: Source>(
+    alloc: Global,
+    pieces: &Pieces<'_, S>,
+    tables: &[Table],
+    place: SourceRef<'_>,
+) -> Result<Option<i64>, Unlisted<S::Fault>>
+    requires { All (IsTable (known_by (S.said pieces.now.source.now) (S.is_log pieces.now.source.now)) pieces.now.shape.now.partitions) tables.now }
+    ensures { IfOk result (IsTimeOf (known_by (S.said pieces.now.source.now) (S.is_log pieces.now.source.now)) pieces.now.shape.now.partitions (plain_source place.entry)) }
+{
+    match time_told(tables, place) {
+        Some(time) => Ok(time),
+        None => time_alone(alloc, pieces, place),
+    }
+}
+
 fn time_if<S: Source>(
     alloc: Global,
     pieces: &Pieces<'_, S>,
+    tables: &[Table],
     place: Option<SourceRef<'_>>,
 ) -> Result<Option<i64>, Unlisted<S::Fault>>
+    requires { All (IsTable (known_by (S.said pieces.now.source.now) (S.is_log pieces.now.source.now)) pieces.now.shape.now.partitions) tables.now }
     ensures { IfOk result (IsTimeIf (known_by (S.said pieces.now.source.now) (S.is_log pieces.now.source.now)) pieces.now.shape.now.partitions (option_map plain_source place.entry)) }
 {
     match place {
         None => Ok(None),
-        Some(place) => time_of(alloc, pieces, place),
+        Some(place) => time_of(alloc, pieces, tables, place),
     }
 }
 
 fn times_of_fault<S: Source>(
     alloc: Global,
     pieces: &Pieces<'_, S>,
+    tables: &[Table],
     fault: &Fault,
 ) -> Result<Timestamps, Unlisted<S::Fault>>
+    requires { All (IsTable (known_by (S.said pieces.now.source.now) (S.is_log pieces.now.source.now)) pieces.now.shape.now.partitions) tables.now }
     ensures { IfOk result (AreTimesOfFault (known_by (S.said pieces.now.source.now) (S.is_log pieces.now.source.now)) pieces.now.shape.now.partitions fault.now) }
 {
-    let own = time_if(alloc, pieces, record_of(fault))?;
-    let claim = time_if(alloc, pieces, claim_of(fault))?;
+    let own = time_if(alloc, pieces, tables, record_of(fault))?;
+    let claim = time_if(alloc, pieces, tables, claim_of(fault))?;
     Ok(Timestamps { own, claim })
 }
 
-/// The times of the records that these faults name.
+/// The times of the records that these faults name, which are read together and then told fault by fault.
 fn times_of_faults<S: Source>(
     alloc: Global,
     pieces: &Pieces<'_, S>,
@@ -150,9 +170,11 @@ fn times_of_faults<S: Source>(
 ) -> Result<Vec<Timestamps>, Unlisted<S::Fault>>
     ensures { IfOk result (λ times. AreTimesOfFaults (known_by (S.said pieces.now.source.now) (S.is_log pieces.now.source.now)) pieces.now.shape.now.partitions faults.now times.items) }
 {
+    let tables = tables_of(alloc, pieces, faults)?;
+    let tables = tables.as_slice();
     let mut times = Vec::new(alloc);
     for fault in faults {
-        times.push(times_of_fault(alloc, pieces, fault)?)?;
+        times.push(times_of_fault(alloc, pieces, tables, fault)?)?;
     }
     Ok(times)
 }
@@ -167,15 +189,7 @@ fn unread(alloc: Global) -> Dates
     }
 }
 
-/// At most the first ten.
-#[tactic(auto, using(std::proofs::lemmas::List::take_min))]
-fn first_of(faults: &[Fault]) -> &[Fault]
-    ensures { result.now ≡ take 10 faults.now }
-{
-    &faults[..FIRST.min(faults.len())]
-}
-
-/// The times of the records that the first faults name, or that they can't be read.
+/// The times of the records that these faults name, or that they can't be read.
 #[tactic(auto, using(crate::proofs::Dated::are_read, crate::proofs::Dated::are_unread))]
 fn dates_of<S: Source>(
     alloc: Global,
@@ -184,7 +198,7 @@ fn dates_of<S: Source>(
 ) -> Result<Dates, AllocError>
     ensures { IfOk result (AreDates (known_by (S.said pieces.now.source.now) (S.is_log pieces.now.source.now)) pieces.now.shape.now.partitions faults.now) }
 {
-    match times_of_faults(alloc, pieces, first_of(faults)) {
+    match times_of_faults(alloc, pieces, faults) {
         Ok(times) => Ok(Dates {
             of_faults: Listed::new(times),
             read: true,

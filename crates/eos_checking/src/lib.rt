@@ -10,6 +10,7 @@ mod folds;
 mod report;
 mod report_file;
 mod source;
+mod tables;
 mod terms;
 
 pub use check::{Asked, Made, Said, Wanted};
