@@ -8,9 +8,12 @@ A report is put together again as the verdict's line and as the lines of the not
 and has to give what was printed. Lines that are wanted are those of the folders' own lists, times those of another reading of the logs. With REFUSE.SO (tests/refuse.c, built) the
 allocations of a run are refused, each in turn; with STREAMS.SO (tests/streams.c) logs are others where they are read again. It needs Python's jsonschema (Debian's python3-jsonschema). Run it in the repository's top folder. The last line is 'N passed, N failed'.
 """
+import bisect
+import functools
 import json
 import os
 import resource
+import shutil
 import signal
 import struct
 import subprocess
@@ -123,8 +126,8 @@ def note_line(note):
 # ---- the times of records, against a second reading of the logs
 
 TIMES = ("timestamp", "source_timestamp", "at_timestamp")
-# Of so many faults at most they are read.
-MOST = 10
+# Once they were read of so many faults alone.
+TEN = 10
 
 
 def without_times(fault):
@@ -138,40 +141,55 @@ def places_of(fault):
     return {f"{name}_timestamp": fault[name] for name in ("source", "at") if name in fault}
 
 
-def time_of(folder, place):
-    """When the record at a place was written, by the log in which its offset lies; none of a fold."""
-    path = os.path.join(folder, partition(place))
-    bases = [int(name[:20]) for name in os.listdir(path) if name.endswith((".log", ".fold"))] if os.path.isdir(path) else []
-    base = max((base for base in bases if base <= place["offset"]), default=0)
-    path = os.path.join(path, f"{base:020}.log")
-    if not os.path.isfile(path):
-        return None
+@functools.cache
+def log_of(path, base):
+    """The bytes of a log, of each batch the first offset and the byte, and the offset behind the last: as far as each begins where the one
+    before ends."""
     with open(path, "rb") as file:
         data = file.read()
-    at = 0
+    at, batches = 0, []
     while at < len(data):
         try:
             batch, size = plain_logs.read_batch(data, at)
         except plain_logs.Refused:
-            return None
+            break
         if batch.base != base:
-            return None
-        if place["offset"] < base + batch.count:
-            return time_at(data, at, place["offset"] - base)
+            break
+        batches.append((base, at))
         at, base = at + size, base + batch.count
-    return None
+    return data, batches, base
+
+
+@functools.cache
+def bases_of(path):
+    return [int(name[:20]) for name in os.listdir(path) if name.endswith((".log", ".fold"))] if os.path.isdir(path) else []
+
+
+def time_of(folder, place):
+    """When the record at a place was written, by the log in which its offset lies; none of a fold."""
+    path = os.path.join(folder, partition(place))
+    base = max((base for base in bases_of(path) if base <= place["offset"]), default=0)
+    path = os.path.join(path, f"{base:020}.log")
+    if not os.path.isfile(path):
+        return None
+    data, batches, end = log_of(path, base)
+    if not base <= place["offset"] < end:
+        return None
+    first, at = batches[bisect.bisect_right(batches, (place["offset"], len(data))) - 1]
+    return time_at(data, at, place["offset"] - first)
 
 
 def check_times(folder, report):
-    """Each record that one of the first faults names has its time; one that the logs don't have, or a fold keeps, has none."""
+    """Each record that a fault names has its time; one that the logs don't have, or a fold keeps, has none. Gives the places in the list of
+    the faults that have some."""
     same(f"{folder}: times are read", report["timestamps_read"], True)
-    count = 0
+    timed = []
     for at, fault in enumerate(report.get("faults", [])):
-        times = {name: time_of(folder, of) for name, of in places_of(fault).items() if at < MOST}
+        times = {name: time_of(folder, of) for name, of in places_of(fault).items()}
         wanted = {name: time for name, time in times.items() if time is not None}
         same(f"{folder}: times of {fault_line(fault)}", {name: fault[name] for name in TIMES if name in fault}, wanted)
-        count += len(wanted)
-    return count
+        timed += [at] * len(wanted)
+    return timed
 
 
 # ---- the tables, against a second program
@@ -236,8 +254,8 @@ def reported(folder, *words):
 
 
 def each_folder():
-    """Each folder of the lists, its report or none."""
-    kinds = set()
+    """Each folder of the lists, its report or none: the kinds of faults and notes, and of each list's folders the first fault."""
+    kinds, firsts = set(), {}
     for top in ("tests/evidence", "tests/stories", "tests/real-evidence"):
         with open(f"{top}/expected.tsv", encoding="utf-8") as file:
             rows = [line.rstrip("\n").split("\t") for line in file]
@@ -249,7 +267,9 @@ def each_folder():
             report = reported(folder)
             same(f"{folder}: as its list has it", verdict_line(report), line)
             kinds |= {fault["code"] for fault in report.get("faults", [])} | {note["kind"] for note in report["notes"]}
-    return kinds
+            if status == "1" and top != "tests/real-evidence":
+                firsts[folder] = report["faults"][0]
+    return kinds, firsts
 
 
 def unread(folder):
@@ -278,21 +298,41 @@ def members():
     same("beside JSON", json.loads(out), {"answer": "no", "fault": fault_line(first)[3:], "fields": without_times(first)})
 
 
-def all_faults():
-    """The times of lists of faults, some of them longer than the list of times."""
-    longest, count, path = 0, 0, os.path.join(scratch, "all.json")
-    for top in ("tests/stories", "tests/evidence"):
-        with open(f"{top}/expected.tsv", encoding="utf-8") as file:
-            rows = [line.split("\t") for line in file]
-        for name, status, _ in rows:
-            if status == "1":
-                run("check", "--quiet", "--all", "--report", path, f"{top}/{name}")
-                with open(path, encoding="utf-8") as file:
-                    report = json.load(file)
-                os.remove(path)
-                count += check_times(f"{top}/{name}", report)
-                longest = max(longest, len(report["faults"]))
-    same("there are times, and longer lists", (count > 50, longest > MOST), (True, True))
+def bare(folder, *words, **settings):
+    """The report of a folder, read without the schema, which takes most of the time."""
+    path = os.path.join(scratch, "bare.json")
+    run("check", "--quiet", *words, "--report", path, folder, **settings)
+    with open(path, encoding="utf-8") as file:
+        report = json.load(file)
+    os.remove(path)
+    return report
+
+
+def all_faults(firsts):
+    """The times of lists of faults, of which the first is as it is alone."""
+    timed = []
+    for folder, first in firsts.items():
+        report = bare(folder, "--all")
+        timed += check_times(folder, report)
+        same(f"{folder}: the first fault alone", report["faults"][0], first)
+    same("there are times, and of faults behind the tenth", (len(timed) > 50, max(timed) > TEN), (True, True))
+
+
+def another_group():
+    """A good folder of many segments whose group is named wrongly: each output has a fault."""
+    folder = os.path.join(scratch, "another-group")
+    shutil.copytree("tests/evidence/random-yes-7", folder)
+    path = os.path.join(folder, "evidence.json")
+    with open(path, encoding="utf-8") as file:
+        manifest = json.load(file)
+    for app in manifest.get("apps", [manifest]):
+        app["group"] = "another-" + app["group"]
+    with open(path, "w", encoding="utf-8") as file:
+        json.dump(manifest, file)
+    report = bare(folder, "--all")
+    timed = check_times(folder, report)
+    same("each of many faults has two times", (len(report["faults"]) > 40, timed), (True, sorted([*range(len(report["faults"]))] * 2)))
+    same("by one worker", bare(folder, "--all", "--workers", "1")["faults"], report["faults"])
 
 
 def odd_id():
@@ -382,23 +422,22 @@ def without_memory(library):
 
 def read_again(library):
     """Logs that are gone or others where they are read a second time: no time is told that isn't theirs, and all else stands."""
-    folder, path = "tests/stories/34-dup-across-transactions", os.path.join(scratch, "again.json")
-    words = ["check", "--workers", "1", "--report", path, folder]
-    want = reported(folder)
-    same("there are times", [name in want["faults"][0] for name in TIMES], [False, True, True])
-    for what, file, is_read in ("gone", os.path.join(scratch, "absent"), False), ("empty", "/dev/null", True):
-        run(*words, LD_PRELOAD=library, FILE_AGAIN=file)
-        found = report_in(path)
-        os.remove(path)
-        rest = {name: value for name, value in want.items() if name not in ("workers", "seconds")}
-        rest.update({"faults": [without_times(fault) for fault in want["faults"]], "timestamps_read": is_read})
-        same(f"logs that are {what}", {name: found[name] for name in rest}, rest)
+    for folder, words in ("tests/stories/34-dup-across-transactions", []), ("tests/stories/09-misspelled-group", ["--all"]):
+        words = [*words, "--workers", "1"]
+        want = bare(folder, *words)
+        same("there are times", [name in want["faults"][-1] for name in TIMES], [False, True, True])
+        for what, file, is_read in ("gone", os.path.join(scratch, "absent"), False), ("empty", "/dev/null", True):
+            found = bare(folder, *words, LD_PRELOAD=library, FILE_AGAIN=file)
+            rest = {name: value for name, value in want.items() if name != "seconds"}
+            rest.update({"faults": [without_times(fault) for fault in want["faults"]], "timestamps_read": is_read})
+            same(f"{folder}: logs that are {what}", {name: found[name] for name in rest}, rest)
 
 
 def main():
-    kinds = each_folder()
+    kinds, firsts = each_folder()
     members()
-    all_faults()
+    all_faults(firsts)
+    another_group()
     odd_id()
     refusals()
     unwritten()
