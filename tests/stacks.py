@@ -1,6 +1,6 @@
 #!/usr/bin/env -S python3 -B
-"""Small stacks: each command answers as it does with a large one, down to 64 KiB for the main thread, or what LEAST says. The C library gives
-as much to each further thread.
+"""Small stacks: each command answers as it does with a large one, down to 64 KiB for the main thread. The C library gives as
+much to each further thread.
 
     python3 -B tests/stacks.py PROGRAM [--least]
 
@@ -19,10 +19,7 @@ GOOD = "tests/evidence/row-yes-2"
 FAULTY = "tests/stories/01-duplicate-output"
 LOG = f"{FAULTY}/orders-0/00000000000000000000.log"
 LARGE = 8192
-SMALL = (2048, 512, 128)
-# How many KiB a command has at least.
-FEW = 64
-LEAST = {"init": 80, "check": 80}
+SIZES = (LARGE, 2048, 512, 128, 64)
 KNOWN = {
     ("check", GOOD): (0, "yes transactions=1 inputs=2 outputs=3\n", ""),
     ("coordinator", "billing"): (0, "billing partition=9\n", ""),
@@ -126,7 +123,7 @@ def main(program, least=None):
                 tell_least(program, room, at)
                 continue
             wanted = None
-            for size in (LARGE, *SMALL, LEAST.get(commands(room)[at][0][0], FEW)):
+            for size in SIZES:
                 words, found = run(program, room, at, size)
                 what = f"{' '.join(words[:2])} with {size} KiB of stack"
                 if size == LARGE:
