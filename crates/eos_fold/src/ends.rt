@@ -116,7 +116,7 @@ impl Ends {
             self.last = last;
         }
         if marker.is_some() {
-            self.waiting = waiting;
+            self.waiting.replace(waiting);
         } else {
             self.waiting.append(waiting);
         }

@@ -88,4 +88,13 @@ impl Indexes {
             unreachable!()
         };
     }
+
+    /// Puts the indexes of another list in the place of these, and keeps the room.
+    pub(crate) fn replace(&mut self, others: Indexes)
+        requires { length others.list ≤ self.old.room }
+        ensures { self.new.list ≡ others.list }
+    {
+        self.clear();
+        self.append(others);
+    }
 }

@@ -1,6 +1,6 @@
 //! The table of a run's producer ids, and room in it.
 
-ghost use Rattle.std.specs.Prelude.{◌≡◌, ◌+◌, ◌≤◌, ℤ, length, Some, IsSome, OnOk};
+ghost use Rattle.std.specs.Prelude.{◌≡◌, ◌+◌, ◌≤◌, ℤ, length, Some, None, IsSome, OnOk};
 ghost use Rattle.std.specs.Ordering.{int_cmp};
 ghost use Rattle.std.specs.BTreeMap.{get};
 ghost use Rattle.eos_fold.specs.declared.ends.Ends.{Ends};
@@ -12,38 +12,23 @@ use crate::ends::Ends;
 use std::alloc::{AllocError, Global};
 use std::collections::BTreeMap;
 
-/// Makes sure that the table has this id.
-fn make_present(
+/// Puts an id that the table doesn't have into it, with room for so many places.
+fn insert_blank(
     alloc: Global,
-    producers: &mut BTreeMap<i64, Ends>,
-    producer: i64,
-) -> Result<(), AllocError>
-    ensures same { (id : ℤ) → SameEnds (ends_at producers.old id) (ends_at producers.new id) }
-    ensures keeps { (id : ℤ) → IsSome (get int_cmp producers.old id) → IsSome (get int_cmp producers.new id) }
-    ensures present { OnOk result (IsSome (get int_cmp producers.new producer)) }
-{
-    if producers.contains_key(&producer) {
-        return Ok(());
-    }
-    producers.insert(producer, Ends::blank(alloc))?;
-    Ok(())
-}
-
-/// Makes room for so many more places of an id.
-fn reserve_at(
     producers: &mut BTreeMap<i64, Ends>,
     producer: i64,
     count: usize,
 ) -> Result<(), AllocError>
-    requires { IsSome (get int_cmp producers.old producer) }
+    requires { get int_cmp producers.old producer ≡ None }
     ensures same { (id : ℤ) → SameEnds (ends_at producers.old id) (ends_at producers.new id) }
     ensures keeps { (id : ℤ) → IsSome (get int_cmp producers.old id) → IsSome (get int_cmp producers.new id) }
-    ensures room { OnOk result (length (ends_at producers.old producer).waiting.list + count ≤ (ends_at producers.new producer).waiting.room) }
+    ensures present { OnOk result (IsSome (get int_cmp producers.new producer)) }
+    ensures room { OnOk result (count ≤ (ends_at producers.new producer).waiting.room) }
 {
-    let Some(ends) = producers.get_mut(&producer) else {
-        unreachable!()
-    };
-    ends.waiting.reserve(count)
+    let mut ends = Ends::blank(alloc);
+    ends.waiting.reserve(count)?;
+    producers.insert(producer, ends)?;
+    Ok(())
 }
 
 /// Makes sure that the table has this id, with room for so many more places. What is known stays.
@@ -61,8 +46,10 @@ pub fn make_room_for(
     ensures present { OnOk result (IsSome (get int_cmp producers.new producer)) }
     ensures room { OnOk result (length (ends_at producers.old producer).waiting.list + count ≤ (ends_at producers.new producer).waiting.room) }
 {
-    make_present(alloc, producers, producer)?;
-    reserve_at(producers, producer, count)
+    let Some(ends) = producers.get_mut(&producer) else {
+        return insert_blank(alloc, producers, producer, count);
+    };
+    ends.waiting.reserve(count)
 }
 
 /// Makes room for all that comes after. What is known stays.

@@ -1,5 +1,6 @@
 pub mod HeadLists
 pub mod KeptLists
+pub mod MarkerHeads
 pub mod FoldSteps
 pub mod SealTexts
 pub mod SealSteps

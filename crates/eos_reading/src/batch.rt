@@ -1,18 +1,17 @@
 //! One batch after the other, of whose data records is kept what is wanted.
 
-ghost use Rattle.std.specs.Prelude.{◌≡◌, ◌≢◌, ◌≤◌, ◌<◌, ◌+◌, ◌++◌, ◌^◌, List, length, drop, Ok, Err, None, IfOk, IfErr, OnOk};
+ghost use Rattle.std.specs.Prelude.{◌≡◌, ◌≢◌, ◌≤◌, ◌<◌, ◌+◌, ◌++◌, ◌^◌, List, length, drop, Ok, Err, IfOk, IfErr, OnOk};
 ghost use Rattle.eos_batch.specs.Answers.{Fails};
-ghost use Rattle.eos_batch.specs.Heads.{head_with};
 ghost use Rattle.eos_batch.specs.Reading.{batch_at};
 ghost use Rattle.eos_batch.specs.Places.{records_in};
 ghost use Rattle.eos_reading.specs.Runs.{IsRun};
 ghost use Rattle.eos_reading.specs.steps.Keeping.{Keeps, Grows, IsKept};
 
+use crate::head::{control_head, head_with};
 use crate::placed::Placed;
 use crate::reading::Reading;
 use bytes::Bytes;
-use eos_batch::{Batch, BatchFault, BatchHead, lend_record, open_batch, test_data};
-use eos_fold::read_head;
+use eos_batch::{BatchFault, BatchHead, lend_record, open_batch, test_data};
 use eos_wire::are_bytes;
 use std::alloc::{AllocError, Global};
 
@@ -53,23 +52,6 @@ fn keep_records<K: Reading>(
     Ok(())
 }
 
-/// The head of a data batch of so many records and bytes.
-fn data_head(batch: &Batch, count: u32, size: usize) -> BatchHead
-    ensures { result ≡ head_with batch.now count size None }
-{
-    BatchHead {
-        offset: batch.base_offset.unsigned_abs(),
-        count,
-        size,
-        producer: batch.producer,
-        epoch: batch.epoch,
-        sequence: batch.sequence,
-        is_control: batch.is_control(),
-        is_transactional: batch.is_transactional(),
-        marker: None,
-    }
-}
-
 /// Reads the batch at `at`. On an error nothing more is kept.
 fn keep_batch<K: Reading>(
     alloc: Global,
@@ -84,7 +66,7 @@ fn keep_batch<K: Reading>(
 {
     let opened = open_batch(alloc, bytes, at)?;
     if opened.batch.is_control() {
-        return read_head(alloc, bytes, at);
+        return control_head(alloc, bytes, at, &opened);
     }
     let before = kept.len();
     let span = Span {
@@ -101,7 +83,7 @@ fn keep_batch<K: Reading>(
         kept.truncate(before);
         return Err(fault);
     }
-    Ok(data_head(&opened.batch, opened.count, opened.end - at))
+    Ok(head_with(&opened.batch, opened.count, opened.end - at, None))
 }
 
 /// Reads the batches of a buffer to the first byte where none stands: puts the head of each at the end of `heads`, and what

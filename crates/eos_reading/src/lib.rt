@@ -11,6 +11,7 @@
 mod batch;
 mod boxed;
 mod epoch;
+mod head;
 pub mod laws;
 mod nothing;
 mod output;

@@ -8,17 +8,17 @@ use Rattle.eos_reading.proofs.batch.keep_batch.Goals as goal
 
 pub returns-then-is_control-clause-ok : goal.returns-then-is_control-clause-ok
 returns-then-is_control-clause-ok g c =
-    IfOk-weaker c.read_head.result _ _
+    IfOk-weaker c.control_head.result _ _
     (λ head h. kept_control (g.K.Reading.kept c.args.reading.now) c.args.bytes.now c.args.at c.args.kept.now.items c.in_ok-opened.opened head c.in_ok-opened.ensures.opened
     (sym c.is_control.ensures ∙ c.if-is_control.true) h)
-    c.read_head.ensures.ok
+    c.control_head.ensures.ok
 
 pub returns-clause-ok : goal.returns-clause-ok
 returns-clause-ok g c =
     let p = c.in_default.ensures.ok in
     let from : c.unsigned_abs.result ≡ offset_of c.in_ok-opened.opened.batch = search rules in
-    kept_data (g.K.Reading.kept c.args.reading.now) c.args.bytes.now c.args.at c.args.kept.now.items c.keep_records.new.kept.items c.in_ok-opened.opened c.data_head.result c.unsigned_abs.result p.0 c.in_ok-opened.ensures.opened
-    (sym c.is_control.ensures ∙ c.if-is_control.false) c.data_head.ensures from p.1 c.in_default-test_data.ensures p.2
+    kept_data (g.K.Reading.kept c.args.reading.now) c.args.bytes.now c.args.at c.args.kept.now.items c.keep_records.new.kept.items c.in_ok-opened.opened c.head_with.result c.unsigned_abs.result p.0 c.in_ok-opened.ensures.opened
+    (sym c.is_control.ensures ∙ c.if-is_control.false) c.head_with.ensures from p.1 c.in_default-test_data.ensures p.2
 
 pub returns-in-Err-clause-err : goal.returns-in-Err-clause-err
 returns-in-Err-clause-err g c =
