@@ -32,3 +32,4 @@ pub mod PlacesWhole
 pub mod PushedMore
 pub mod KeptDeciders
 pub mod TablesShown
+pub mod KnownTexts

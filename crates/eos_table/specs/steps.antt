@@ -6,5 +6,6 @@ pub mod OneShard
 pub mod Wanted
 pub mod Doubled
 pub mod Apart
+pub mod Known
 pub mod Deciders
 pub mod Shown

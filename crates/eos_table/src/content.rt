@@ -22,7 +22,11 @@ pub enum Content {
     Of(Bytes, Option<TxnValue>),
 }
 
-fn read_id(alloc: Global, key: &[u8]) -> Result<Result<Option<Bytes>, RecordFault>, AllocError>
+/// Reads a key, of which it takes a copy.
+pub(crate) fn read_id(
+    alloc: Global,
+    key: &[u8],
+) -> Result<Result<Option<Bytes>, RecordFault>, AllocError>
     ensures { IfOk result (λ read. read ≡ read_key key.now) }
 {
     let bytes = Bytes::copy_from_slice(alloc, key)?;
@@ -33,7 +37,11 @@ fn read_id(alloc: Global, key: &[u8]) -> Result<Result<Option<Bytes>, RecordFaul
     }
 }
 
-fn read_state(alloc: Global, value: &[u8]) -> Result<Result<TxnValue, RecordFault>, AllocError>
+/// Reads a value, of which it takes a copy.
+pub(crate) fn read_state(
+    alloc: Global,
+    value: &[u8],
+) -> Result<Result<TxnValue, RecordFault>, AllocError>
     ensures { IfOk result (λ read. read ≡ read_value value.now) }
 {
     let bytes = Bytes::copy_from_slice(alloc, value)?;

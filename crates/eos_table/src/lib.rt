@@ -4,11 +4,13 @@
 
 mod agree;
 mod apart;
+mod around;
 mod best;
 mod content;
 mod decided;
 mod doubled;
 mod key;
+mod known;
 mod last_values;
 pub mod laws;
 mod log_faults;

@@ -7,7 +7,8 @@ ghost use Rattle.eos_table.specs.TransactionLog.{content_of, state_of, step_at, 
 ghost use Rattle.eos_table.specs.declared.content.Content.TheVariants.{Of};
 ghost use Rattle.eos_table.specs.steps.LogCandidates.{after, unread, taken, open_at, step_faults, faults_at, faults_after, part_faults, step_of};
 
-use crate::content::{Content, read_content};
+use crate::content::Content;
+use crate::known::Known;
 use crate::last_values::{LastValues, is_of_transaction_log, is_open, kind_of_status, last_value};
 use crate::log_faults::LogFaults;
 use crate::mark::{Mark, Place, producer_of};
@@ -28,6 +29,7 @@ pub(crate) struct LogReading {
     pub decisions: Vec<Decision>,
     /// The faults that a record or the end of a partition shows by itself.
     pub faults: LogFaults,
+    known: Known,
 }
 
 impl Model for LogReading {
@@ -136,7 +138,7 @@ fn take_record(
         partition: part.partition(),
         offset: item.offset(),
     };
-    match read_content(alloc, item)? {
+    match reading.known.read(alloc, item)? {
         Content::Unreadable(record) => {
             let kind = LogFaultKind::BadRecord { record };
             reading.faults.take(place, kind)
@@ -213,13 +215,14 @@ fn push_open(
 
 impl LogReading {
     /// Nothing is read, and the faults to come are kept so.
-    fn new(alloc: Global, faults: LogFaults) -> LogReading
+    fn new(alloc: Global, faults: LogFaults, known: Known) -> LogReading
         ensures { result ≡ unread faults }
     {
         LogReading {
             marks: Vec::new(alloc),
             decisions: Vec::new(alloc),
             faults,
+            known,
         }
     }
 
@@ -243,7 +246,7 @@ pub(crate) fn read_log(
 ) -> Result<LogReading, AllocError>
     ensures { IfOk result (λ reading. reading ≡ after (unread faults) (all_steps (transaction_parts parts.now)) (flat_map part_faults (transaction_parts parts.now))) }
 {
-    let mut reading = LogReading::new(alloc, faults);
+    let mut reading = LogReading::new(alloc, faults, Known::new(alloc)?);
     for part in parts {
         if is_of_transaction_log(part) {
             reading.take_part(alloc, part)?;

@@ -38,6 +38,7 @@ fn judge_log(
         marks,
         decisions,
         mut faults,
+        ..
     } = read_log(alloc, parts, faults)?;
     push_doubled(alloc, &mut faults, marks.as_slice())?;
     Ok((decisions, faults))

@@ -1,0 +1,320 @@
+//! What was read of the records of the transaction log, so that equal bytes aren't read again. A log has few keys,
+//! and few sets of partitions, in many records.
+
+ghost use Rattle.std.specs.Prelude.{◌≡◌, true, Some, Ok, IfOk, IfSome};
+ghost use Rattle.std.specs.Option.{option_map};
+ghost use Rattle.eos_txnlog.specs.Reading.{read_key, read_value};
+ghost use Rattle.eos_table.specs.TransactionLog.{content_of, content_of_value};
+ghost use Rattle.eos_table.specs.steps.Known.{IsSetText};
+
+use crate::around::{Around, fields_around, is_same, version_of, with_set};
+use crate::content::{Content, read_id, read_state};
+use bytes::Bytes;
+use eos_base::RecordFault;
+use eos_kept::ItemRef;
+use eos_txnlog::{Partitions, TxnValue, encode_value};
+use eos_wire::{Form, crc32c};
+use std::alloc::{AllocError, Global};
+use std::marker::Model;
+
+/// How many of either are kept.
+const MOST: usize = 1024;
+
+/// A key that was read.
+#[derive(Drop)]
+struct KnownKey {
+    key: Vec<u8>,
+    id: Bytes,
+}
+
+impl Model for KnownKey {
+    ghost use Rattle.std.specs.Prelude.{◌≡◌, ℕ, List, Some, Ok};
+    ghost use Rattle.eos_txnlog.specs.Reading.{read_key};
+
+    ghost Value = { List ℕ };
+
+    ghost view = { λ k. k.id };
+
+    ghost invariant = { λ k. read_key k.key.items ≡ Ok (Some k.id) };
+}
+
+impl KnownKey {
+    fn new(alloc: Global, key: &[u8], id: &Bytes) -> Result<KnownKey, AllocError>
+        requires { read_key key.now ≡ Ok (Some id.now) }
+    {
+        Ok(KnownKey {
+            key: copied(alloc, key)?,
+            id: id.clone()?,
+        })
+    }
+
+    fn is_of(&self, key: &[u8]) -> bool
+        ensures { result ≡ true → read_key key.now ≡ Ok (Some self.now) }
+    {
+        self.key.as_slice() == key
+    }
+
+    fn id(&self) -> Result<Bytes, AllocError>
+        ensures { IfOk result (λ id. id ≡ self.now) }
+    {
+        self.id.clone()
+    }
+}
+
+/// A text of partitions, and what it reads.
+#[derive(Drop)]
+struct KnownSet {
+    form: Form,
+    text: Vec<u8>,
+    set: Partitions,
+}
+
+impl Model for KnownSet {
+    ghost use Rattle.std.specs.Prelude.{List};
+    ghost use Rattle.eos_txnlog.specs.declared.partitions.TopicPartitions.{TopicPartitions};
+    ghost use Rattle.eos_table.specs.steps.Known.{IsSetText};
+
+    ghost Value = { List TopicPartitions };
+
+    ghost view = { λ k. k.set };
+
+    ghost invariant = { λ k. IsSetText k.form k.text.items k.set };
+}
+
+impl KnownSet {
+    fn new(alloc: Global, form: Form, text: &[u8], set: &Partitions) -> Result<KnownSet, AllocError>
+        requires { IsSetText form text.now set.now }
+    {
+        Ok(KnownSet {
+            form,
+            text: copied(alloc, text)?,
+            set: set.clone()?,
+        })
+    }
+
+    fn is_of(&self, form: Form, text: &[u8]) -> bool
+        ensures { result ≡ true → IsSetText form text.now self.now }
+    {
+        is_same(self.form, form) && self.text.as_slice() == text
+    }
+
+    fn set(&self) -> Result<Partitions, AllocError>
+        ensures { IfOk result (λ set. set ≡ self.now) }
+    {
+        self.set.clone()
+    }
+}
+
+fn copied(alloc: Global, bytes: &[u8]) -> Result<Vec<u8>, AllocError>
+    ensures { IfOk result (λ copy. copy.items ≡ bytes.now) }
+{
+    let mut copy = Vec::new(alloc);
+    copy.extend_from_slice(bytes)?;
+    Ok(copy)
+}
+
+/// Where the bytes are looked for.
+fn slot_of(bytes: &[u8]) -> usize {
+    crc32c(bytes) as usize % MOST
+}
+
+/// What was read, each at the slot of its bytes; the last one stays there.
+#[derive(Drop)]
+pub(crate) struct Known {
+    keys: Vec<Option<KnownKey>>,
+    sets: Vec<Option<KnownSet>>,
+}
+
+impl Known {
+    /// Nothing was read.
+    pub fn new(alloc: Global) -> Result<Known, AllocError> {
+        let mut keys = Vec::new(alloc);
+        let mut sets = Vec::new(alloc);
+        for _slot in 0..MOST {
+            keys.push(None)?;
+            sets.push(None)?;
+        }
+        Ok(Known { keys, sets })
+    }
+
+    fn known_id(&self, key: &[u8]) -> Result<Option<Bytes>, AllocError>
+        ensures { IfOk result (λ found. IfSome found (λ id. read_key key.now ≡ Ok (Some id))) }
+    {
+        let Some(Some(known)) = self.keys.get(slot_of(key)) else {
+            return Ok(None);
+        };
+        if !known.is_of(key) {
+            return Ok(None);
+        }
+        Ok(Some(known.id()?))
+    }
+
+    fn keep_key(&mut self, alloc: Global, key: &[u8], id: &Bytes) -> Result<(), AllocError>
+        requires { read_key key.now ≡ Ok (Some id.now) }
+    {
+        let known = KnownKey::new(alloc, key, id)?;
+        if let Some(slot) = self.keys.get_mut(slot_of(key)) {
+            *slot = Some(known);
+        }
+        Ok(())
+    }
+
+    /// Reads a key.
+    fn id_of(
+        &mut self,
+        alloc: Global,
+        key: &[u8],
+    ) -> Result<Result<Option<Bytes>, RecordFault>, AllocError>
+        ensures { IfOk result (λ read. read ≡ read_key key.now) }
+    {
+        if let Some(id) = self.known_id(key)? {
+            return Ok(Ok(Some(id)));
+        }
+        let read = read_id(alloc, key)?;
+        if let Ok(Some(id)) = &read {
+            self.keep_key(alloc, key, id)?;
+        }
+        Ok(read)
+    }
+
+    fn known_set(&self, form: Form, text: &[u8]) -> Result<Option<Partitions>, AllocError>
+        ensures { IfOk result (λ found. IfSome found (λ set. IsSetText form text.now set)) }
+    {
+        let Some(Some(known)) = self.sets.get(slot_of(text)) else {
+            return Ok(None);
+        };
+        if !known.is_of(form, text) {
+            return Ok(None);
+        }
+        Ok(Some(known.set()?))
+    }
+
+    fn known_value(&self, alloc: Global, value: &[u8]) -> Result<Option<TxnValue>, AllocError>
+        ensures { IfOk result (λ found. IfSome found (λ state. read_value value.now ≡ Ok state)) }
+    {
+        let Some(Around { form, text, bare }) = fields_around(alloc, value) else {
+            return Ok(None);
+        };
+        match self.known_set(form, text)? {
+            None => Ok(None),
+            Some(set) => Ok(Some(with_set(bare, set))),
+        }
+    }
+
+    fn keep_set(
+        &mut self,
+        alloc: Global,
+        form: Form,
+        text: &[u8],
+        set: &Partitions,
+    ) -> Result<(), AllocError>
+        requires { IsSetText form text.now set.now }
+    {
+        let known = KnownSet::new(alloc, form, text, set)?;
+        if let Some(slot) = self.sets.get_mut(slot_of(text)) {
+            *slot = Some(known);
+        }
+        Ok(())
+    }
+
+    /// Keeps the partitions of a value, by the text that is written for them in this form.
+    fn keep_written(
+        &mut self,
+        alloc: Global,
+        form: Form,
+        state: &TxnValue,
+    ) -> Result<(), AllocError> {
+        let written = match encode_value(alloc, state, version_of(form)) {
+            Ok(written) => written,
+            Err(RecordFault::OutOfMemory) => return Err(AllocError),
+            Err(_) => return Ok(()),
+        };
+        let Some(
+            Around {
+                form: found,
+                text,
+                ..
+            },
+        ) = fields_around(alloc, written.as_slice())
+        else {
+            return Ok(());
+        };
+        if !is_same(found, form) {
+            return Ok(());
+        }
+        self.keep_set(alloc, form, text, &state.partitions)
+    }
+
+    /// Keeps the partitions of a value that was read.
+    fn keep_value(
+        &mut self,
+        alloc: Global,
+        value: &[u8],
+        state: &TxnValue,
+    ) -> Result<(), AllocError> {
+        match fields_around(alloc, value) {
+            None => Ok(()),
+            Some(Around { form, .. }) => self.keep_written(alloc, form, state),
+        }
+    }
+
+    /// Reads a value whose partitions aren't known, and keeps them.
+    fn read_anew(
+        &mut self,
+        alloc: Global,
+        value: &[u8],
+    ) -> Result<Result<TxnValue, RecordFault>, AllocError>
+        ensures { IfOk result (λ read. read ≡ read_value value.now) }
+    {
+        let read = read_state(alloc, value)?;
+        if let Ok(state) = &read {
+            self.keep_value(alloc, value, state)?;
+        }
+        Ok(read)
+    }
+
+    /// Reads a value.
+    fn state_of(
+        &mut self,
+        alloc: Global,
+        value: &[u8],
+    ) -> Result<Result<TxnValue, RecordFault>, AllocError>
+        ensures { IfOk result (λ read. read ≡ read_value value.now) }
+    {
+        match self.known_value(alloc, value)? {
+            Some(state) => Ok(Ok(state)),
+            None => self.read_anew(alloc, value),
+        }
+    }
+
+    fn read_of_id(
+        &mut self,
+        alloc: Global,
+        id: Bytes,
+        value: Option<&[u8]>,
+    ) -> Result<Content, AllocError>
+        ensures { IfOk result (λ content. content ≡ content_of_value id (option_map (λ s. s.now) value.entry)) }
+    {
+        let Some(bytes) = value else {
+            return Ok(Content::Of(id, None));
+        };
+        match self.state_of(alloc, bytes)? {
+            Ok(state) => Ok(Content::Of(id, Some(state))),
+            Err(fault) => Ok(Content::Unreadable(fault)),
+        }
+    }
+
+    /// Reads a data record of the transaction log.
+    pub fn read(&mut self, alloc: Global, item: &ItemRef<'_>) -> Result<Content, AllocError>
+        ensures { IfOk result (λ content. content ≡ content_of item.now) }
+    {
+        let Some(key) = item.key() else {
+            return Ok(Content::Unreadable(RecordFault::Short));
+        };
+        match self.id_of(alloc, key)? {
+            Ok(Some(id)) => self.read_of_id(alloc, id, item.value()),
+            Ok(None) => Ok(Content::Other),
+            Err(fault) => Ok(Content::Unreadable(fault)),
+        }
+    }
+}
