@@ -38,6 +38,9 @@ if_ok (Err e) P Q f h = h
 pub match_ok : {X E : Type 0} (P : X → Type 0) (Q : E → Type 0) (r : Result X E) (x : X) → r ≡ Ok x → MatchResult r P Q → P x
 match_ok P Q r x e h = subst (λ s. MatchResult s P Q) e h
 
+pub match_err : {X E : Type 0} (P : X → Type 0) (Q : E → Type 0) (r : Result X E) (y : E) → r ≡ Err y → MatchResult r P Q → Q y
+match_err P Q r y e h = subst (λ s. MatchResult s P Q) e h
+
 -- ---- the transaction log and the matching
 
 pub matched_found : (ls : List PartLog) → AreInOrder ls → (ds : List Decision)
@@ -57,16 +60,17 @@ matched_found ls is ds read (Err f) m =
 unnamed : (apps : List App) (ls : List PartLog) (o : Option PartitionFault) (v : Verdict) → o ≡ None → (AreInOrder ls → IsVerdictOver apps ls v) → IsJudged apps ls o v
 unnamed apps ls o v e h = subst (λ (x : Option PartitionFault). IsJudged apps ls x v) (sym e) h
 
-module _ (apps : List App) (ls parts : List PartLog) (same : parts ≡ ls) (o : Option PartitionFault) (none : o ≡ None) (r : Result ℕ Fault) (transacted : AreInOrder parts → IsTransacted parts r) where
-  over_parts : (v : Verdict) → (AreInOrder parts → IsVerdictOver apps parts v) → IsJudged apps ls o v
-  over_parts v h = unnamed apps ls o v none (subst (λ (ps : List PartLog). AreInOrder ps → IsVerdictOver apps ps v) same h)
+pub over_parts : (apps : List App) (ls parts : List PartLog) → parts ≡ ls → (o : Option PartitionFault) → o ≡ None → (v : Verdict)
+    → (AreInOrder parts → IsVerdictOver apps parts v) → IsJudged apps ls o v
+over_parts apps ls parts same o none v h = unnamed apps ls o v none (subst (λ (ps : List PartLog). AreInOrder ps → IsVerdictOver apps ps v) same h)
 
-  pub refused : (f : Fault) → r ≡ Err f → IsJudged apps ls o (No f)
-  refused f is = over_parts (No f) (λ at. let t : IsTransacted parts (Err f) = subst (IsTransacted parts) is (transacted at) in t apps)
+module _ (apps : List App) (parts : List PartLog) (r : Result ℕ Fault) (transacted : AreInOrder parts → IsTransacted parts r) where
+  pub refused : (f : Fault) → r ≡ Err f → AreInOrder parts → IsVerdictOver apps parts (No f)
+  refused f is at = let t : IsTransacted parts (Err f) = subst (IsTransacted parts) is (transacted at) in t apps
 
   pub answered : (n : ℕ) → r ≡ Ok n → (l : Result LineageCounts LineageFault) → (AreInOrder parts → IsAnswer apps parts l) → (v : Verdict)
-      → (IsTransacted parts (Ok n) → IsAnswer apps parts l → IsVerdictOver apps parts v) → IsJudged apps ls o v
-  answered n is l lineage v h = over_parts v (λ at. h (subst (IsTransacted parts) is (transacted at)) (lineage at))
+      → (IsTransacted parts (Ok n) → IsAnswer apps parts l → IsVerdictOver apps parts v) → AreInOrder parts → IsVerdictOver apps parts v
+  answered n is l lineage v h at = h (subst (IsTransacted parts) is (transacted at)) (lineage at)
 
 -- ---- the verdict of logs whose partitions have no fault by themselves, or this one as the least
 
