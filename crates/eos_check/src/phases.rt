@@ -11,8 +11,7 @@ use crate::shards::least_fault;
 use eos_base::Workers;
 use eos_fold::PartitionFault;
 use eos_kept::Part;
-use eos_table::{LogFault, TxnTable};
-use eos_txnlog::Decision;
+use eos_table::{LogFault, SharedDecision, TxnTable};
 use eos_verdict::Fault;
 use std::alloc::{AllocError, Global};
 use std::thread::Threads;
@@ -33,7 +32,7 @@ pub(crate) fn copied(fault: &PartitionFault) -> Result<PartitionFault, AllocErro
 fn matched<R: Threads + Sync>(
     alloc: Global,
     rt: &R,
-    decisions: Vec<Decision>,
+    decisions: Vec<SharedDecision>,
     parts: &[Part],
     workers: Workers,
 ) -> Result<Result<u64, Fault>, AllocError>
@@ -48,7 +47,7 @@ fn matched<R: Threads + Sync>(
 }
 
 /// What the transaction log answers: its decisions, or its least fault.
-pub(crate) type LogAnswer = Result<Vec<Decision>, LogFault>;
+pub(crate) type LogAnswer = Result<Vec<SharedDecision>, LogFault>;
 
 /// The number of transactions, or the least fault of the transaction log and the matching, by what the transaction log answers. The
 /// matching runs in as many shards as there are workers.

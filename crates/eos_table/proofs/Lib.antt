@@ -33,3 +33,4 @@ pub mod PushedMore
 pub mod KeptDeciders
 pub mod TablesShown
 pub mod KnownTexts
+pub mod SameSets

@@ -6,8 +6,8 @@ ghost use Rattle.eos_txnlog.specs.declared.decision.Decision.{Decision as Decisi
 ghost use Rattle.eos_table.specs.steps.Keys.{pair_cmp};
 ghost use Rattle.eos_table.specs.steps.Deciders.{with_decision, AreDeciders};
 
+use crate::shared::SharedDecision;
 use eos_batch::Kind;
-use eos_txnlog::Decision;
 use std::alloc::{AllocError, Global};
 use std::collections::BTreeMap;
 
@@ -30,13 +30,13 @@ pub(crate) fn decided_of(deciders: &Deciders, producer: i64, epoch: i16) -> Opti
     deciders.get(&(producer, epoch)).copied()
 }
 
-fn with_decision(known: Option<Decided>, decision: &Decision) -> Decided
+fn with_decision(known: Option<Decided>, decision: &SharedDecision) -> Decided
     ensures { result ≡ with_decision known decision.now }
 {
     match known {
         None => Decided {
-            marker_epoch: decision.marker_epoch,
-            kind: decision.kind,
+            marker_epoch: decision.marker_epoch(),
+            kind: decision.kind(),
             is_twice: false,
         },
         Some(known) => Decided {
@@ -47,17 +47,22 @@ fn with_decision(known: Option<Decided>, decision: &Decision) -> Decided
     }
 }
 
-fn take_decision(deciders: &mut Deciders, decision: &Decision) -> Result<(), AllocError>
+fn take_decision(deciders: &mut Deciders, decision: &SharedDecision) -> Result<(), AllocError>
     ensures { (before : List DecisionOf) → AreDeciders deciders.old before → OnOk result (AreDeciders deciders.new (before ++ decision.now ∷ [])) }
 {
-    let known = decided_of(deciders, decision.producer, decision.epoch);
+    let producer = decision.producer();
+    let epoch = decision.epoch();
+    let known = decided_of(deciders, producer, epoch);
     let decided = with_decision(known, decision);
-    deciders.insert((decision.producer, decision.epoch), decided)?;
+    deciders.insert((producer, epoch), decided)?;
     Ok(())
 }
 
 /// The table of these decisions.
-pub(crate) fn deciders_of(alloc: Global, decisions: &[Decision]) -> Result<Deciders, AllocError>
+pub(crate) fn deciders_of(
+    alloc: Global,
+    decisions: &[SharedDecision],
+) -> Result<Deciders, AllocError>
     ensures { IfOk result (λ deciders. AreDeciders deciders decisions.now) }
 {
     let mut deciders = BTreeMap::new(alloc);

@@ -6,12 +6,13 @@ ghost use Rattle.eos_fold.specs.Parts.{part_name};
 ghost use Rattle.eos_table.specs.steps.Keys.{plain_name, decided, judged, listed, listed_of, plain_listed, ended, ended_of, plain_ended, marked, marked_of, names};
 
 use crate::one_shard::Shard;
+use crate::shared::SharedDecision;
 use bytes::Bytes;
 use eos_base::Sorted;
 use eos_batch::Kind;
 use eos_fold::Close;
 use eos_kept::Part;
-use eos_txnlog::{Decision, TopicPartitions};
+use eos_txnlog::TopicPartitions;
 use std::alloc::{AllocError, Global};
 
 /// A partition's name, with its topic lent.
@@ -61,15 +62,15 @@ pub(crate) fn name_in<'a>(topic: &'a TopicPartitions, partition: &i32) -> NameRe
 /// The producer id and data epoch of each decision.
 pub(crate) fn decided_keys(
     alloc: Global,
-    decisions: &[Decision],
+    decisions: &[SharedDecision],
     shard: Shard,
 ) -> Result<Vec<(i64, i16)>, AllocError>
     ensures { IfOk result (λ v. v.items ≡ decided shard.of shard.number decisions.now) }
 {
     let mut keys = Vec::new(alloc);
     for decision in decisions {
-        if shard.has(decision.producer) {
-            keys.push((decision.producer, decision.epoch))?;
+        if shard.has(decision.producer()) {
+            keys.push((decision.producer(), decision.epoch()))?;
         }
     }
     Ok(keys)
@@ -78,19 +79,19 @@ pub(crate) fn decided_keys(
 /// The close that each decision wants.
 pub(crate) fn judged_keys(
     alloc: Global,
-    decisions: &[Decision],
+    decisions: &[SharedDecision],
     shard: Shard,
 ) -> Result<Vec<Close>, AllocError>
     ensures { IfOk result (λ v. v.items ≡ judged shard.of shard.number decisions.now) }
 {
     let mut keys = Vec::new(alloc);
     for decision in decisions {
-        if shard.has(decision.producer) {
+        if shard.has(decision.producer()) {
             keys.push(Close {
-                producer: decision.producer,
-                epoch: decision.epoch,
-                marker_epoch: decision.marker_epoch,
-                kind: decision.kind,
+                producer: decision.producer(),
+                epoch: decision.epoch(),
+                marker_epoch: decision.marker_epoch(),
+                kind: decision.kind(),
             })?;
         }
     }
@@ -99,25 +100,28 @@ pub(crate) fn judged_keys(
 
 fn push_listed_topic<'a>(
     keys: &mut Vec<Listed<'a>>,
-    decision: &Decision,
+    decision: &SharedDecision,
     topic: &'a TopicPartitions,
 ) -> Result<(), AllocError>
     ensures { OnOk result (map plain_listed keys.new.items ≡ map plain_listed keys.old.items ++ listed_of decision.now (names_in_topic topic.now)) }
 {
     for partition in topic.numbers.as_slice() {
         keys.push(Listed {
-            producer: decision.producer,
-            epoch: decision.epoch,
+            producer: decision.producer(),
+            epoch: decision.epoch(),
             name: name_in(topic, partition),
         })?;
     }
     Ok(())
 }
 
-fn push_listed<'a>(keys: &mut Vec<Listed<'a>>, decision: &'a Decision) -> Result<(), AllocError>
+fn push_listed<'a>(
+    keys: &mut Vec<Listed<'a>>,
+    decision: &'a SharedDecision,
+) -> Result<(), AllocError>
     ensures { OnOk result (map plain_listed keys.new.items ≡ map plain_listed keys.old.items ++ listed_of decision.now (names_of decision.now.partitions)) }
 {
-    for topic in decision.partitions.as_slice() {
+    for topic in decision.partitions() {
         push_listed_topic(keys, decision, topic)?;
     }
     Ok(())
@@ -126,14 +130,14 @@ fn push_listed<'a>(keys: &mut Vec<Listed<'a>>, decision: &'a Decision) -> Result
 /// The partitions that decisions list.
 pub(crate) fn listed_keys<'a>(
     alloc: Global,
-    decisions: &'a [Decision],
+    decisions: &'a [SharedDecision],
     shard: Shard,
 ) -> Result<Sorted<Listed<'a>>, AllocError>
     ensures { IfOk result (λ keys. IsPermutation (listed shard.of shard.number decisions.now) (map plain_listed keys)) }
 {
     let mut keys = Vec::new(alloc);
     for decision in decisions {
-        if shard.has(decision.producer) {
+        if shard.has(decision.producer()) {
             push_listed(&mut keys, decision)?;
         }
     }
@@ -142,26 +146,26 @@ pub(crate) fn listed_keys<'a>(
 
 fn push_ended_topic<'a>(
     keys: &mut Vec<Ended<'a>>,
-    decision: &Decision,
+    decision: &SharedDecision,
     topic: &'a TopicPartitions,
 ) -> Result<(), AllocError>
     ensures { OnOk result (map plain_ended keys.new.items ≡ map plain_ended keys.old.items ++ ended_of decision.now (names_in_topic topic.now)) }
 {
     for partition in topic.numbers.as_slice() {
         keys.push(Ended {
-            producer: decision.producer,
-            epoch: decision.marker_epoch,
-            kind: decision.kind,
+            producer: decision.producer(),
+            epoch: decision.marker_epoch(),
+            kind: decision.kind(),
             name: name_in(topic, partition),
         })?;
     }
     Ok(())
 }
 
-fn push_ended<'a>(keys: &mut Vec<Ended<'a>>, decision: &'a Decision) -> Result<(), AllocError>
+fn push_ended<'a>(keys: &mut Vec<Ended<'a>>, decision: &'a SharedDecision) -> Result<(), AllocError>
     ensures { OnOk result (map plain_ended keys.new.items ≡ map plain_ended keys.old.items ++ ended_of decision.now (names_of decision.now.partitions)) }
 {
-    for topic in decision.partitions.as_slice() {
+    for topic in decision.partitions() {
         push_ended_topic(keys, decision, topic)?;
     }
     Ok(())
@@ -170,14 +174,14 @@ fn push_ended<'a>(keys: &mut Vec<Ended<'a>>, decision: &'a Decision) -> Result<(
 /// The end markers that decisions want.
 pub(crate) fn ended_keys<'a>(
     alloc: Global,
-    decisions: &'a [Decision],
+    decisions: &'a [SharedDecision],
     shard: Shard,
 ) -> Result<Sorted<Ended<'a>>, AllocError>
     ensures { IfOk result (λ keys. IsPermutation (ended shard.of shard.number decisions.now) (map plain_ended keys)) }
 {
     let mut keys = Vec::new(alloc);
     for decision in decisions {
-        if shard.has(decision.producer) {
+        if shard.has(decision.producer()) {
             push_ended(&mut keys, decision)?;
         }
     }

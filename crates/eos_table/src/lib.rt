@@ -28,6 +28,7 @@ mod places;
 mod quick;
 mod settled;
 mod shard;
+mod shared;
 mod table;
 mod transaction_log;
 mod wanted;
@@ -38,5 +39,6 @@ pub use last_values::{LastValues, is_of_transaction_log, kind_of_status, last_va
 pub use match_list::all_match_faults;
 pub use quick::are_matched;
 pub use shard::match_shard;
+pub use shared::SharedDecision;
 pub use table::TxnTable;
 pub use transaction_log::{all_log_faults, txn_log};

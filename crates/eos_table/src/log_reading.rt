@@ -13,9 +13,10 @@ use crate::last_values::{LastValues, is_of_transaction_log, is_open, kind_of_sta
 use crate::log_faults::LogFaults;
 use crate::mark::{Mark, Place, producer_of};
 use crate::settled::are_settled;
+use crate::shared::{Sets, SharedDecision};
 use bytes::Bytes;
 use eos_kept::{ItemRef, Part};
-use eos_txnlog::{Decision, TxnValue, is_skipped, step_ok};
+use eos_txnlog::{TxnValue, is_skipped, step_ok};
 use eos_verdict::LogFaultKind;
 use std::alloc::{AllocError, Global};
 use std::collections::BTreeMap;
@@ -26,10 +27,11 @@ use std::marker::Model;
 pub(crate) struct LogReading {
     /// Its unskipped records.
     pub marks: Vec<Mark>,
-    pub decisions: Vec<Decision>,
+    pub decisions: Vec<SharedDecision>,
     /// The faults that a record or the end of a partition shows by itself.
     pub faults: LogFaults,
     known: Known,
+    sets: Sets,
 }
 
 impl Model for LogReading {
@@ -50,7 +52,8 @@ struct TxnRecord {
 
 /// Puts what a record decides at the end.
 fn push_decision(
-    decisions: &mut Vec<Decision>,
+    decisions: &mut Vec<SharedDecision>,
+    sets: &mut Sets,
     id: &Bytes,
     before: Option<&TxnValue>,
     value: Option<&TxnValue>,
@@ -63,14 +66,7 @@ fn push_decision(
     let Some(kind) = kind_of_status(value.status) else {
         return Ok(());
     };
-    decisions.push(Decision {
-        id: id.clone()?,
-        producer: value.producer,
-        epoch: before.epoch,
-        marker_epoch: value.epoch,
-        kind,
-        partitions: value.partitions.clone()?,
-    })?;
+    decisions.push(sets.decision(id, before, value, kind)?)?;
     Ok(())
 }
 
@@ -85,7 +81,7 @@ fn take_step(
     ensures { let step = step_of place.partition place.offset id.now (option_copied before.entry) (option_copied value.entry) in
         OnOk result (reading.new ≡ after reading.old (step ∷ []) (step_faults step)) }
 {
-    push_decision(&mut reading.decisions, id, before, value)?;
+    push_decision(&mut reading.decisions, &mut reading.sets, id, before, value)?;
     if let Err(why) = step_ok(before, value) {
         let kind = LogFaultKind::Step {
             id: id.clone()?,
@@ -215,7 +211,7 @@ fn push_open(
 
 impl LogReading {
     /// Nothing is read, and the faults to come are kept so.
-    fn new(alloc: Global, faults: LogFaults, known: Known) -> LogReading
+    fn new(alloc: Global, faults: LogFaults, known: Known, sets: Sets) -> LogReading
         ensures { result ≡ unread faults }
     {
         LogReading {
@@ -223,6 +219,7 @@ impl LogReading {
             decisions: Vec::new(alloc),
             faults,
             known,
+            sets,
         }
     }
 
@@ -246,7 +243,7 @@ pub(crate) fn read_log(
 ) -> Result<LogReading, AllocError>
     ensures { IfOk result (λ reading. reading ≡ after (unread faults) (all_steps (transaction_parts parts.now)) (flat_map part_faults (transaction_parts parts.now))) }
 {
-    let mut reading = LogReading::new(alloc, faults, Known::new(alloc)?);
+    let mut reading = LogReading::new(alloc, faults, Known::new(alloc)?, Sets::new(alloc)?);
     for part in parts {
         if is_of_transaction_log(part) {
             reading.take_part(alloc, part)?;

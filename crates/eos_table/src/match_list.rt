@@ -12,17 +12,17 @@ use crate::decided::deciders_of;
 use crate::key::{ended_keys, listed_keys, marked_keys, name_keys};
 use crate::one_shard::Shard;
 use crate::places::{push_closes, push_decisions, push_markers, push_names};
+use crate::shared::SharedDecision;
 use crate::transaction_log::decisions_in;
 use eos_base::distinct_in_order;
 use eos_kept::Part;
-use eos_txnlog::Decision;
 use std::alloc::{AllocError, Global};
 
 /// What the decisions and their data show, one fault perhaps more than once.
 fn push_by_decision(
     alloc: Global,
     faults: &mut Vec<MatchFault>,
-    decisions: &[Decision],
+    decisions: &[SharedDecision],
     parts: &[Part],
 ) -> Result<(), AllocError>
     ensures { OnOk result (faults.new.items ≡ faults.old.items ++ (flat_map (at_decision decisions.now) decisions.now ++ at_closes decisions.now parts.now)) }
@@ -38,7 +38,7 @@ fn push_by_decision(
 fn push_by_marker(
     alloc: Global,
     faults: &mut Vec<MatchFault>,
-    decisions: &[Decision],
+    decisions: &[SharedDecision],
     parts: &[Part],
 ) -> Result<(), AllocError>
     ensures { OnOk result (faults.new.items ≡ faults.old.items ++ at_markers decisions.now parts.now) }
@@ -52,7 +52,7 @@ fn push_by_marker(
 fn push_by_name(
     alloc: Global,
     faults: &mut Vec<MatchFault>,
-    decisions: &[Decision],
+    decisions: &[SharedDecision],
     parts: &[Part],
 ) -> Result<(), AllocError>
     ensures { OnOk result (faults.new.items ≡ faults.old.items ++ at_names decisions.now parts.now) }
@@ -66,7 +66,7 @@ fn push_by_name(
 /// The faults as they are found, one perhaps more than once.
 fn found(
     alloc: Global,
-    decisions: &[Decision],
+    decisions: &[SharedDecision],
     parts: &[Part],
 ) -> Result<Vec<MatchFault>, AllocError>
     ensures { IfOk result (λ faults. faults.items ≡ gathered decisions.now parts.now) }

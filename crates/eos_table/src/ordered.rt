@@ -7,10 +7,10 @@ use crate::key::{
     Ended, Listed, NameRef, decided_keys, judged_keys, listed_keys, marked_keys, name_keys,
 };
 use crate::one_shard::Shard;
+use crate::shared::SharedDecision;
 use eos_base::Sorted;
 use eos_fold::Close;
 use eos_kept::Part;
-use eos_txnlog::Decision;
 use std::alloc::{AllocError, Global};
 
 /// What the decisions of a shard say of data.
@@ -35,7 +35,7 @@ pub(crate) struct PresentKeys<'a> {
 
 pub(crate) fn data_keys<'a>(
     alloc: Global,
-    decisions: &'a [Decision],
+    decisions: &'a [SharedDecision],
     shard: Shard,
 ) -> Result<DataKeys<'a>, AllocError>
     ensures decided { IfOk result (λ keys. IsPermutation (decided shard.of shard.number decisions.now) keys.decided) }

@@ -13,11 +13,12 @@ use crate::key::{Ended, Listed, NameRef, name_in, name_of_part};
 use crate::look::{is_decided, is_ended, is_judged, is_listed, is_name};
 use crate::one_shard::Shard;
 use crate::ordered::{DataKeys, PresentKeys};
+use crate::shared::SharedDecision;
 use eos_base::{Sorted, lesser};
 use eos_batch::Marker;
 use eos_fold::Close;
 use eos_kept::Part;
-use eos_txnlog::{Decision, TopicPartitions};
+use eos_txnlog::TopicPartitions;
 use eos_verdict::MatchFaultKind;
 
 /// The least so far, with what one place gives.
@@ -86,7 +87,7 @@ fn kind_at_marker(
 
 fn kind_at_name(
     present: &PresentKeys<'_>,
-    decision: &Decision,
+    decision: &SharedDecision,
     name: NameRef<'_>,
 ) -> Option<MatchFaultKind>
     ensures { result ≡ kind_of_name (map plain_name present.now.names) (map plain_ended present.now.marked) decision.now (plain_name name.entry) }
@@ -95,9 +96,9 @@ fn kind_at_name(
         return Some(MatchFaultKind::AbsentPartition);
     }
     let key = Ended {
-        producer: decision.producer,
-        epoch: decision.marker_epoch,
-        kind: decision.kind,
+        producer: decision.producer(),
+        epoch: decision.marker_epoch(),
+        kind: decision.kind(),
         name,
     };
     if is_ended(&present.marked, &key) {
@@ -178,7 +179,7 @@ fn markers_of_part<'a>(
 fn after_number<'a>(
     best: Option<Found<'a>>,
     present: &PresentKeys<'_>,
-    decision: &Decision,
+    decision: &SharedDecision,
     topic: &'a TopicPartitions,
     partition: &i32,
 ) -> Option<Found<'a>>
@@ -187,13 +188,13 @@ fn after_number<'a>(
 {
     let name = name_in(topic, partition);
     let kind = kind_at_name(present, decision, name);
-    with(best, decision.producer, decision.epoch, name, kind)
+    with(best, decision.producer(), decision.epoch(), name, kind)
 }
 
 fn names_of_topic<'a>(
     first: Option<Found<'a>>,
     present: &PresentKeys<'_>,
-    decision: &Decision,
+    decision: &SharedDecision,
     topic: &'a TopicPartitions,
 ) -> Option<Found<'a>>
     ensures { option_map plain result ≡ fold (lesser_of fault_cmp) (option_map plain first.entry)
@@ -209,13 +210,13 @@ fn names_of_topic<'a>(
 fn names_of_decision<'a>(
     first: Option<Found<'a>>,
     present: &PresentKeys<'_>,
-    decision: &'a Decision,
+    decision: &'a SharedDecision,
 ) -> Option<Found<'a>>
     ensures { option_map plain result ≡ fold (lesser_of fault_cmp) (option_map plain first.entry)
         (name_faults (map plain_name present.now.names) (map plain_ended present.now.marked) decision.now (listed_names decision.now.partitions)) }
 {
     let mut best = first;
-    for topic in decision.partitions.as_slice() {
+    for topic in decision.partitions() {
         best = names_of_topic(best, present, decision, topic);
     }
     best
@@ -259,7 +260,7 @@ pub(crate) fn markers_of<'a>(
 pub(crate) fn names_of<'a>(
     first: Option<Found<'a>>,
     present: &PresentKeys<'_>,
-    decisions: &'a [Decision],
+    decisions: &'a [SharedDecision],
     shard: Shard,
 ) -> Option<Found<'a>>
     ensures { option_map plain result ≡ fold (lesser_of fault_cmp) (option_map plain first.entry)
@@ -267,7 +268,7 @@ pub(crate) fn names_of<'a>(
 {
     let mut best = first;
     for decision in decisions {
-        if shard.has(decision.producer) {
+        if shard.has(decision.producer()) {
             best = names_of_decision(best, present, decision);
         }
     }

@@ -12,12 +12,13 @@ ghost use Rattle.eos_table.specs.steps.Shown.{twice_by, decision_by, data_by, cl
 use crate::decided::{Decided, Deciders, decided_of};
 use crate::key::{Ended, Listed, NameRef, name_in, name_of_part};
 use crate::look::{is_ended, is_listed, is_name};
+use crate::shared::SharedDecision;
 use crate::{MatchFault, MatchFaultKind};
 use eos_base::{PartitionName, Sorted};
 use eos_batch::{Kind, Marker};
 use eos_fold::Close;
 use eos_kept::Part;
-use eos_txnlog::{Decision, TopicPartitions};
+use eos_txnlog::TopicPartitions;
 use std::alloc::AllocError;
 
 fn push_fault(
@@ -47,7 +48,7 @@ fn push_fault(
 fn push_twice(
     faults: &mut Vec<MatchFault>,
     decided: Option<Decided>,
-    decision: &Decision,
+    decision: &SharedDecision,
 ) -> Result<(), AllocError>
     ensures { OnOk result (faults.new.items ≡ faults.old.items ++ twice_by decided decision.now) }
 {
@@ -56,8 +57,8 @@ fn push_twice(
     };
     if decided.is_twice {
         faults.push(MatchFault {
-            producer: decision.producer,
-            epoch: decision.epoch,
+            producer: decision.producer(),
+            epoch: decision.epoch(),
             kind: MatchFaultKind::TwiceDecided,
             partition: None,
         })?;
@@ -68,11 +69,11 @@ fn push_twice(
 fn push_decision(
     faults: &mut Vec<MatchFault>,
     deciders: &Deciders,
-    decision: &Decision,
+    decision: &SharedDecision,
 ) -> Result<(), AllocError>
     ensures { OnOk result (faults.new.items ≡ faults.old.items ++ decision_by deciders.now decision.now) }
 {
-    let decided = decided_of(deciders, decision.producer, decision.epoch);
+    let decided = decided_of(deciders, decision.producer(), decision.epoch());
     push_twice(faults, decided, decision)
 }
 
@@ -80,7 +81,7 @@ fn push_decision(
 pub(crate) fn push_decisions(
     faults: &mut Vec<MatchFault>,
     deciders: &Deciders,
-    decisions: &[Decision],
+    decisions: &[SharedDecision],
 ) -> Result<(), AllocError>
     ensures { OnOk result (faults.new.items ≡ faults.old.items ++ flat_map (decision_by deciders.now) decisions.now) }
 {
@@ -259,22 +260,22 @@ fn push_name(
     faults: &mut Vec<MatchFault>,
     there: &Sorted<NameRef<'_>>,
     marked: &Sorted<Ended<'_>>,
-    decision: &Decision,
+    decision: &SharedDecision,
     name: NameRef<'_>,
 ) -> Result<(), AllocError>
     ensures { OnOk result (faults.new.items ≡ faults.old.items ++ name_by (map plain_name there.now) (map plain_ended marked.now) decision.now (plain_name name.entry)) }
 {
     let key = Ended {
-        producer: decision.producer,
-        epoch: decision.marker_epoch,
-        kind: decision.kind,
+        producer: decision.producer(),
+        epoch: decision.marker_epoch(),
+        kind: decision.kind(),
         name,
     };
     if !is_name(there, &name) {
         return push_fault(
             faults,
-            decision.producer,
-            decision.epoch,
+            decision.producer(),
+            decision.epoch(),
             name,
             MatchFaultKind::AbsentPartition,
         );
@@ -284,8 +285,8 @@ fn push_name(
     }
     push_fault(
         faults,
-        decision.producer,
-        decision.epoch,
+        decision.producer(),
+        decision.epoch(),
         name,
         MatchFaultKind::MissingMarker,
     )
@@ -295,7 +296,7 @@ fn push_topic(
     faults: &mut Vec<MatchFault>,
     there: &Sorted<NameRef<'_>>,
     marked: &Sorted<Ended<'_>>,
-    decision: &Decision,
+    decision: &SharedDecision,
     topic: &TopicPartitions,
 ) -> Result<(), AllocError>
     ensures { OnOk result (faults.new.items ≡ faults.old.items ++ flat_map (name_by (map plain_name there.now) (map plain_ended marked.now) decision.now) (names_in_topic topic.now)) }
@@ -310,11 +311,11 @@ fn push_names_of(
     faults: &mut Vec<MatchFault>,
     there: &Sorted<NameRef<'_>>,
     marked: &Sorted<Ended<'_>>,
-    decision: &Decision,
+    decision: &SharedDecision,
 ) -> Result<(), AllocError>
     ensures { OnOk result (faults.new.items ≡ faults.old.items ++ names_in (map plain_name there.now) (map plain_ended marked.now) decision.now) }
 {
-    for topic in decision.partitions.as_slice() {
+    for topic in decision.partitions() {
         push_topic(faults, there, marked, decision, topic)?;
     }
     Ok(())
@@ -325,7 +326,7 @@ pub(crate) fn push_names(
     faults: &mut Vec<MatchFault>,
     there: &Sorted<NameRef<'_>>,
     marked: &Sorted<Ended<'_>>,
-    decisions: &[Decision],
+    decisions: &[SharedDecision],
 ) -> Result<(), AllocError>
     ensures { OnOk result (faults.new.items ≡ faults.old.items ++ flat_map (names_in (map plain_name there.now) (map plain_ended marked.now)) decisions.now) }
 {

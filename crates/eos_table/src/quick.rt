@@ -10,12 +10,12 @@ use crate::key::decided_keys;
 use crate::one_shard::Shard;
 use crate::owners::owners_of;
 use crate::shard::twice_found;
+use crate::shared::SharedDecision;
 use crate::table::TxnTable;
 use crate::wanted::wanted_of;
 use eos_base::{Sorted, Workers};
 use eos_fold::Close;
 use eos_kept::Part;
-use eos_txnlog::Decision;
 use std::alloc::{AllocError, Global};
 use std::thread;
 use std::thread::Threads;
@@ -23,14 +23,14 @@ use std::thread::Threads;
 /// What threads walk over: the decisions, and for each part the closes that they want there, and which thread looks at it.
 #[derive(Clone, Copy)]
 struct Ground<'d, 'p, 'l, 'o> {
-    decisions: &'d [Decision],
+    decisions: &'d [SharedDecision],
     parts: &'p [Part],
     lists: &'l [Vec<Close>],
     owners: &'o [usize],
 }
 
 /// Whether no two decisions of the shard have one producer id and epoch.
-fn is_once(alloc: Global, decisions: &[Decision], shard: Shard) -> Result<bool, AllocError>
+fn is_once(alloc: Global, decisions: &[SharedDecision], shard: Shard) -> Result<bool, AllocError>
     ensures { IfOk result (λ yes. yes ≡ true → IsOnce shard.of shard.number decisions.now) }
 {
     let pairs = decided_keys(alloc, decisions, shard)?;

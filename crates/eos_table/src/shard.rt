@@ -10,10 +10,10 @@ use crate::look::first_twice;
 use crate::one_shard::Shard;
 use crate::ordered::{data_keys, present_keys};
 use crate::pass::{closes_of, markers_of, names_of};
+use crate::shared::SharedDecision;
 use crate::table::TxnTable;
 use eos_base::PartitionName;
 use eos_kept::Part;
-use eos_txnlog::Decision;
 use eos_verdict::{MatchFault, MatchFaultKind};
 use std::alloc::{AllocError, Global};
 
@@ -34,7 +34,7 @@ pub(crate) fn twice_found<'a>(keys: &[(i64, i16)]) -> Option<Found<'a>>
 
 fn least<'a>(
     alloc: Global,
-    decisions: &'a [Decision],
+    decisions: &'a [SharedDecision],
     parts: &'a [Part],
     shard: Shard,
 ) -> Result<Option<Found<'a>>, AllocError>

@@ -2,14 +2,14 @@
 
 ghost use Rattle.std.specs.Prelude.{◌≡◌, IfOk};
 
-use eos_txnlog::Decision;
+use crate::shared::SharedDecision;
 use std::alloc::AllocError;
 use std::marker::Model;
 
 /// The decisions, which contracts see as their list.
 #[derive(Debug, Drop)]
 pub struct TxnTable {
-    decisions: Vec<Decision>,
+    decisions: Vec<SharedDecision>,
 }
 
 impl Model for TxnTable {
@@ -26,14 +26,14 @@ impl TxnTable {
     ///
     /// # Errors
     /// Only want of memory.
-    pub fn from_decisions(decisions: Vec<Decision>) -> Result<TxnTable, AllocError>
+    pub fn from_decisions(decisions: Vec<SharedDecision>) -> Result<TxnTable, AllocError>
         ensures { IfOk result (λ table. table ≡ decisions.items) }
     {
         Ok(TxnTable { decisions })
     }
 
     /// The decisions, as they were given.
-    pub fn decisions(&self) -> &[Decision]
+    pub fn decisions(&self) -> &[SharedDecision]
         ensures { result.now ≡ self.now }
     {
         self.decisions.as_slice()

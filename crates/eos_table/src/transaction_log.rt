@@ -11,14 +11,14 @@ ghost use Rattle.eos_table.specs.steps.Doubled.{gathered};
 use crate::doubled::push_doubled;
 use crate::log_faults::LogFaults;
 use crate::log_reading::{LogReading, read_log};
+use crate::shared::SharedDecision;
 use eos_base::distinct_in_order;
 use eos_kept::Part;
-use eos_txnlog::Decision;
 use eos_verdict::LogFault;
 use std::alloc::{AllocError, Global};
 
 /// What the log decided, also where it breaks its own rule.
-pub(crate) fn decisions_in(alloc: Global, parts: &[Part]) -> Result<Vec<Decision>, AllocError>
+pub(crate) fn decisions_in(alloc: Global, parts: &[Part]) -> Result<Vec<SharedDecision>, AllocError>
     ensures { IfOk result (λ ds. ds.items ≡ decisions_of (transaction_parts parts.now)) }
 {
     let LogReading { decisions, .. } = read_log(alloc, parts, LogFaults::only_least(alloc))?;
@@ -30,7 +30,7 @@ fn judge_log(
     alloc: Global,
     parts: &[Part],
     faults: LogFaults,
-) -> Result<(Vec<Decision>, LogFaults), AllocError>
+) -> Result<(Vec<SharedDecision>, LogFaults), AllocError>
     ensures decisions { IfOk result (λ judged. judged.0.items ≡ decisions_of (transaction_parts parts.now)) }
     ensures faults { IfOk result (λ judged. judged.1 ≡ fold taken faults (gathered (transaction_parts parts.now))) }
 {
@@ -52,7 +52,10 @@ fn judge_log(
 ///
 /// # Errors
 /// Only want of memory.
-pub fn txn_log(alloc: Global, parts: &[Part]) -> Result<Result<Vec<Decision>, LogFault>, AllocError>
+pub fn txn_log(
+    alloc: Global,
+    parts: &[Part],
+) -> Result<Result<Vec<SharedDecision>, LogFault>, AllocError>
     ensures { let log = transaction_parts parts.now in AreInOrder log → IfOk result (λ answer. MatchResult answer
         (λ ds. NoneStands (StandsInLog log) × (ds.items ≡ decisions_of log)) (IsLeast log_cmp (StandsInLog log))) }
 {

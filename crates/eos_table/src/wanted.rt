@@ -6,10 +6,11 @@ ghost use Rattle.eos_fold.specs.Parts.{part_name};
 ghost use Rattle.eos_table.specs.steps.Wanted.{wanted_close, wish, wishes_in, wishes_of, wishes, IsAt, IsPut, Have, Take};
 
 use crate::key::{NameRef, name_of_part};
+use crate::shared::SharedDecision;
 use bytes::Bytes;
 use eos_fold::Close;
 use eos_kept::Part;
-use eos_txnlog::{Decision, TopicPartitions};
+use eos_txnlog::TopicPartitions;
 use std::alloc::{AllocError, Global};
 
 /// The first place whose name is not less, where the parts stand by name.
@@ -27,6 +28,28 @@ fn first_from(parts: &[Part], name: NameRef<'_>) -> usize {
     low
 }
 
+/// So many parts are looked at one after the other: most are passed by their numbers, and the order of texts takes longer than that.
+const FEW: usize = 32;
+
+/// The place of the part of this name, where there is one.
+fn first_of(parts: &[Part], name: NameRef<'_>) -> usize {
+    for i in 0..parts.len() {
+        if parts[i].partition() == name.partition && parts[i].topic() == name.topic {
+            return i;
+        }
+    }
+    parts.len()
+}
+
+/// Where the part of this name is, if it is there and the parts stand by name.
+fn likely_index(parts: &[Part], name: NameRef<'_>) -> usize {
+    if parts.len() <= FEW {
+        first_of(parts, name)
+    } else {
+        first_from(parts, name)
+    }
+}
+
 fn is_named(part: &Part, topic: &[u8], partition: &i32) -> bool
     ensures { result ≡ true → part_name part.now ≡ name_of topic.now partition.now }
 {
@@ -41,7 +64,7 @@ fn place_of(parts: &[Part], topic: &Bytes, partition: &i32) -> Option<usize>
         topic,
         partition: *partition,
     };
-    let place = first_from(parts, name);
+    let place = likely_index(parts, name);
     let part = parts.get(place)?;
     if is_named(part, topic.as_slice(), partition) {
         Some(place)
@@ -94,26 +117,26 @@ fn want_topic(
 }
 
 /// The close that a decision wants in each partition that it lists.
-fn close_of(decision: &Decision) -> Close
+fn close_of(decision: &SharedDecision) -> Close
     ensures { result ≡ wanted_close decision.now }
 {
     Close {
-        producer: decision.producer,
-        epoch: decision.epoch,
-        marker_epoch: decision.marker_epoch,
-        kind: decision.kind,
+        producer: decision.producer(),
+        epoch: decision.epoch(),
+        marker_epoch: decision.marker_epoch(),
+        kind: decision.kind(),
     }
 }
 
 fn want_decision(
     lists: &mut Vec<Vec<Close>>,
     parts: &[Part],
-    decision: &Decision,
+    decision: &SharedDecision,
 ) -> Result<bool, AllocError>
     ensures { IfOk result (λ yes. yes ≡ true → Take parts.now (wishes_of decision.now) lists.old.items lists.new.items) }
 {
     let close = close_of(decision);
-    for topic in decision.partitions.as_slice() {
+    for topic in decision.partitions() {
         if !want_topic(lists, parts, close, topic)? {
             return Ok(false);
         }
@@ -136,7 +159,7 @@ fn no_lists(alloc: Global, parts: &[Part]) -> Result<Vec<Vec<Close>>, AllocError
 /// isn't there.
 pub(crate) fn wanted_of(
     alloc: Global,
-    decisions: &[Decision],
+    decisions: &[SharedDecision],
     parts: &[Part],
 ) -> Result<Option<Vec<Vec<Close>>>, AllocError>
     ensures { IfOk result (λ answer. IfSome answer (λ lists. Have parts.now (wishes decisions.now) lists.items)) }

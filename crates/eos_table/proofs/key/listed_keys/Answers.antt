@@ -1,5 +1,7 @@
 use Rattle.std.proofs.Common.{◌≡◌, [], ◌++◌, ◌∙◌, ap, sym, map, rules, w64, to_z, of_z, if◌then◌else◌, subst, take_all, IsPermutation}
 use Rattle.std.proofs.lemmas.List.{append-nil}
+use Rattle.std.proofs.lemmas.Int.{to_z-of_z}
+use mir.Val.{SFits}
 use Rattle.eos_txnlog.specs.declared.decision.Decision.{Decision}
 use Rattle.eos_txnlog.specs.PartitionSets.{names_of}
 use Rattle.std.proofs.lemmas.List.Sorted.{IsPermutation-map}
@@ -11,7 +13,8 @@ use Rattle.eos_table.proofs.key.listed_keys.Goals as goal
 pub loop-decision-preserved : goal.loop-decision-preserved
 loop-decision-preserved c =
     let d = c.decision-item.result in
-    let own : mine c.args.shard.of c.args.shard.number (to_z w64 (of_z w64 d.producer)) ≡ mine c.args.shard.of c.args.shard.number d.producer = ap (mine c.args.shard.of c.args.shard.number) (search rules) in
+    let fits : SFits w64 c.producer.result = search rules in
+    let own : mine c.args.shard.of c.args.shard.number (to_z w64 (of_z w64 c.producer.result)) ≡ mine c.args.shard.of c.args.shard.number d.producer = ap (mine c.args.shard.of c.args.shard.number) (to_z-of_z w64 c.producer.result fits ∙ c.producer.ensures) in
     let before = map plain_listed c.loop-decision.keys.items in
     let here = listed_of d (names_of d.partitions) in
     pushed_more (λ (d : Decision). if mine c.args.shard.of c.args.shard.number d.producer then listed_of d (names_of d.partitions) else [])

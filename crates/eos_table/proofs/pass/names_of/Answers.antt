@@ -1,4 +1,6 @@
 use Rattle.std.proofs.Common.{◌≡◌, [], ◌∙◌, Option, ap, map, fold, option_map, rules, w64, to_z, of_z, if◌then◌else◌}
+use Rattle.std.proofs.lemmas.Int.{to_z-of_z}
+use mir.Val.{SFits}
 use Rattle.eos_base.specs.Least.{lesser_of}
 use Rattle.eos_txnlog.specs.declared.decision.Decision.{Decision}
 use Rattle.eos_txnlog.specs.PartitionSets.{names_of}
@@ -13,7 +15,8 @@ use Rattle.eos_table.proofs.pass.names_of.Goals as goal
 pub loop-decision-preserved : goal.loop-decision-preserved
 loop-decision-preserved c =
     let d = c.decision-item.result in
-    let own : mine c.args.shard.of c.args.shard.number (to_z w64 (of_z w64 d.producer)) ≡ mine c.args.shard.of c.args.shard.number d.producer = ap (mine c.args.shard.of c.args.shard.number) (search rules) in
+    let fits : SFits w64 c.producer.result = search rules in
+    let own : mine c.args.shard.of c.args.shard.number (to_z w64 (of_z w64 c.producer.result)) ≡ mine c.args.shard.of c.args.shard.number d.producer = ap (mine c.args.shard.of c.args.shard.number) (to_z-of_z w64 c.producer.result fits ∙ c.producer.ensures) in
     let here = name_faults (map plain_name c.args.present.now.names) (map plain_ended c.args.present.now.marked) d (names_of d.partitions) in
     let now = option_map plain c.loop-decision.best in
     folded_more (lesser_of fault_cmp) (λ (d : Decision). if mine c.args.shard.of c.args.shard.number d.producer then name_faults (map plain_name c.args.present.now.names) (map plain_ended c.args.present.now.marked) d (names_of d.partitions) else [])
