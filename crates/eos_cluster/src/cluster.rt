@@ -25,7 +25,7 @@ use eos_broker::log_indexes::output_index;
 use eos_evidence::{Evidence, MAX_SEGMENTS};
 use eos_log_writer::log_count;
 use eos_machine::{Config, Event, Item, Reply, Switches};
-use std::alloc::Global;
+use std::alloc::{AllocError, Global};
 use std::marker::Model;
 use thiserror::Error;
 
@@ -267,5 +267,17 @@ impl Cluster {
             Ok(evidence) => Ok(evidence),
             Err(_) => Err(EvidenceRefusal::OutOfMemory),
         }
+    }
+
+    /// The same at any time, at rest or not: what somebody collects from a cluster that goes on. Nothing is said of faults.
+    ///
+    /// # Errors
+    /// Where a growth was refused.
+    pub fn evidence_anywhere(&self) -> Result<Evidence, AllocError>
+        requires { HasRoomForAll self.now.config self.now.world }
+        ensures ok { IfOk result (IsEvidenceOf self.now.config self.now.world) }
+        ensures evidence { IfOk result IsEvidence }
+    {
+        evidence_of(&self.store)
     }
 }
