@@ -34,7 +34,7 @@ mod threads;
 pub use deed::{Deed, Note};
 pub use finished::{Call, Called, Entries, Entry, Finished};
 pub use history::History;
-pub use mishap::{ChosenMishap, Input, Mishap};
+pub use mishap::{ChosenMishap, Input, MISHAPS, Mishap};
 pub use rates::Rates;
 pub use script::Script;
 pub use scripted::{run_kept, run_script, run_with};

@@ -1,7 +1,7 @@
 //! Mistakes that an application makes, each once, at one input.
 
 ghost use Rattle.std.specs.Prelude.{◌≡◌, None, IfSome};
-ghost use Rattle.eos_drive.specs.Mishaps.{mishap_name, name_in};
+ghost use Rattle.eos_drive.specs.Mishaps.{mishap_name, is_chained, name_in};
 
 use bytes::Bytes;
 use std::alloc::{AllocError, Global};
@@ -31,8 +31,8 @@ pub enum Mishap {
     AbortedInput,
 }
 
-/// All of them.
-const MISHAPS: [Mishap; 10] = [
+/// All of them, the second group's last.
+pub const MISHAPS: [Mishap; 10] = [
     Mishap::LostOutput,
     Mishap::RepeatedOutput,
     Mishap::EarlyOutput,
@@ -82,8 +82,10 @@ impl Mishap {
     }
 
     /// Whether it is a mistake of the second group.
-    pub(crate) fn is_chained(self) -> bool {
-        self == Mishap::AbortedInput
+    pub fn is_chained(self) -> bool
+        ensures { result ≡ is_chained self }
+    {
+        matches!(self, Mishap::AbortedInput)
     }
 
     /// Whether it can happen at an input with so many outputs.
@@ -158,19 +160,25 @@ impl ChosenMishap {
     }
 
     /// The word that chooses it.
-    pub(crate) fn word(self, alloc: Global) -> Result<Bytes, AllocError> {
+    ///
+    /// # Errors
+    /// Where a growth was refused.
+    pub fn text(self, alloc: Global) -> Result<String, AllocError> {
         let name = self.mishap.name();
-        let text = match self.at {
-            None => String::from_str(alloc, name)?,
-            Some(Input { source, offset }) => {
-                let topic = if self.mishap.is_chained() {
-                    "out"
-                } else {
-                    "in"
-                };
-                format!(in alloc; "{name}@{topic}-{source}:{offset}")?
-            }
+        let Some(Input { source, offset }) = self.at else {
+            return String::from_str(alloc, name);
         };
+        let topic = if self.mishap.is_chained() {
+            "out"
+        } else {
+            "in"
+        };
+        Ok(format!(in alloc; "{name}@{topic}-{source}:{offset}")?)
+    }
+
+    /// The same as bytes.
+    pub(crate) fn word(self, alloc: Global) -> Result<Bytes, AllocError> {
+        let text = self.text(alloc)?;
         Bytes::copy_from_slice(alloc, text.as_bytes())
     }
 

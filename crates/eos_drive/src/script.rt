@@ -1,7 +1,7 @@
 //! Scripts: words that say what happens in a run.
 
 ghost use Rattle.std.specs.Prelude.{◌≡◌, IfOk};
-ghost use Rattle.eos_drive.specs.Words.{words_from, seeded};
+ghost use Rattle.eos_drive.specs.Words.{words_from, seeded, on_stream};
 
 use rand_core::SeedableRng;
 use rand_core::utils::NextWord;
@@ -29,16 +29,30 @@ impl Script {
     ///
     /// # Errors
     /// Where a growth was refused.
-    #[tactic(auto, using(crate::proofs::Drawing::words_more, crate::proofs::Drawing::after_more))]
     pub fn from_seed(alloc: Global, seed: u64, length: u64) -> Result<Script, AllocError>
         ensures { IfOk result (λ s. s ≡ words_from length (seeded seed)) }
     {
-        let mut generator = Lcg64Xsh32::seed_from_u64(seed);
-        let mut words = Vec::new(alloc);
-        for _ in 0..length {
-            words.push(generator.next_word())?;
-        }
-        Ok(Script { words })
+        drawn(alloc, Lcg64Xsh32::seed_from_u64(seed), length)
+    }
+
+    /// The first `length` words that this generator gives from the seed's state on this stream.
+    ///
+    /// # Errors
+    /// Where a growth was refused.
+    pub fn on_stream(
+        alloc: Global,
+        seed: u64,
+        stream: u64,
+        length: u64,
+    ) -> Result<Script, AllocError>
+        ensures { IfOk result (λ s. s ≡ words_from length (on_stream seed stream)) }
+    {
+        let generator = Lcg64Xsh32::seed_from_u64(seed);
+        drawn(
+            alloc,
+            Lcg64Xsh32::from_state(generator.state(), stream),
+            length,
+        )
     }
 
     /// Its words, in order.
@@ -47,4 +61,16 @@ impl Script {
     {
         self.words.as_slice()
     }
+}
+
+/// The next words of a generator, so many of them.
+#[tactic(auto, using(crate::proofs::Drawing::words_more, crate::proofs::Drawing::after_more))]
+fn drawn(alloc: Global, mut generator: Lcg64Xsh32, length: u64) -> Result<Script, AllocError>
+    ensures { IfOk result (λ s. s ≡ words_from length generator) }
+{
+    let mut words = Vec::new(alloc);
+    for _ in 0..length {
+        words.push(generator.next_word())?;
+    }
+    Ok(Script { words })
 }

@@ -38,7 +38,8 @@ pub fn run_script(alloc: Global, cluster: &mut Cluster, script: &Script) -> Resu
     Ok(())
 }
 
-/// The same with other settings. Rates that come to more than 1,000 leave the later ones less. The answer is the first of the
+/// The same with other settings. Rates that come to more than 1,000 leave the later ones less. A run that stops ends after its last word, at
+/// rest or not. The answer is the first of the
 /// mishaps that didn't happen, since no input suited it, or none came in where it was to.
 ///
 /// # Errors
@@ -101,6 +102,9 @@ fn drive_words(
         number = number.saturating_add(1);
     }
     turn_on(cluster, driver, settings, number)?;
+    if settings.stops {
+        return Ok(actors.plan.unmet());
+    }
     settle(&mut actors, cluster, driver)?;
     Ok(actors.plan.unmet())
 }

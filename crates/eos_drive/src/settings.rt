@@ -1,6 +1,6 @@
 //! What a run is besides its script.
 
-ghost use Rattle.std.specs.Prelude.{◌≡◌, [], None};
+ghost use Rattle.std.specs.Prelude.{◌≡◌, [], None, false};
 ghost use Rattle.eos_drive.specs.Rates.{today};
 
 use crate::mishap::ChosenMishap;
@@ -16,6 +16,8 @@ pub struct Settings<'a> {
     pub turning: Option<Turning>,
     /// The mistakes that the applications make.
     pub mishaps: &'a [ChosenMishap],
+    /// Whether the run ends after its last word, and what is left isn't processed.
+    pub stops: bool,
 }
 
 /// That the switches of a cluster are set.
@@ -33,11 +35,13 @@ impl<'a> Settings<'a> {
         ensures rates { result.rates ≡ today }
         ensures turning { result.turning ≡ None }
         ensures mishaps { result.mishaps.now ≡ [] }
+        ensures stops { result.stops ≡ false }
     {
         Settings {
             rates: Rates::TODAY,
             turning: None,
             mishaps: &[],
+            stops: false,
         }
     }
 }

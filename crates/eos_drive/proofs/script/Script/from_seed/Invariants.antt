@@ -1,7 +1,0 @@
-use Rattle.std.proofs.Common.{◌≡◌}
-use Rattle.eos_drive.specs.Words.{words_from, seeded}
-use Rattle.eos_drive.proofs.Drawing.{after_words}
-use Rattle.eos_drive.proofs.script.Script.from_seed.Given as goal
-
-abbrev pub invariant-loop : goal.invariant-loop
-invariant-loop l = (l.words.items ≡ words_from l.counter (seeded l.seed)) × (l.generator ≡ after_words l.counter (seeded l.seed))
