@@ -190,7 +190,7 @@ _eoscheck() {
       return ;;
     esac
     case $word in
-    -*) mapfile -t COMPREPLY < <(compgen -W '--seed --events --applications --inputs --outputs --transaction-logs --segment-records --batch-records --chain --lose --repeat --abandon --members --restart-broker --restart-coordinator --abort --switch --switch-at --no-tail --mishap --history --labels --schedule --count --progress -h --help' -- "$word") ;;
+    -*) mapfile -t COMPREPLY < <(compgen -W '--seed --events --applications --inputs --outputs --transaction-logs --segment-records --batch-records --chain --lose --repeat --abandon --members --restart-broker --restart-coordinator --abort --switch --switch-at --no-tail --mishap --stop-anywhere --history --labels --schedule --count --swarm --progress -h --help' -- "$word") ;;
     *) mapfile -t COMPREPLY < <(compgen -d -- "$word") ;;
     esac ;;
   esac

@@ -103,9 +103,12 @@ def wrong_labels(labels, history, switches):
         if it["label"] == "broken-rule":
             if it["rule"] not in switches or (deed.get("event"), deed.get("message"), deed.get("reply"), deed.get("value")) != ("deliver", it["message"], "done", it["offset"]):
                 return f"{it} of {deed}"
+        elif it["label"] == "stopped":
+            if it["number"] != max(deeds) or it is not labels[-1]:
+                return f"{it} isn't the last"
         elif deed.get("note") != it["label"] or any(deed[name] != it[name] for name in ("message", "mishap") if name in it):
             return f"{it} of {deed}"
-    noted = [it["number"] for it in labels if it["label"] != "broken-rule"]
+    noted = [it["number"] for it in labels if it["label"] not in ("broken-rule", "stopped")]
     if noted != [number for number, it in deeds.items() if "note" in it]:
         return "notes without a label"
     if [it["number"] for it in labels] != sorted(it["number"] for it in labels):
@@ -154,8 +157,8 @@ def is_given_up(folder, label):
 class Score:
     """A seed's folder: what is wrong with its labels, and how `check` does by them."""
 
-    def __init__(self, seed):
-        self.seed, (self.words, self.switches) = seed, words_of(seed)
+    def __init__(self, seed, words=None):
+        self.seed, (self.words, self.switches) = seed, words or words_of(seed)
         self.wrong, self.missed, self.labels, self.faults, self.named = None, [], [], [], 0
 
     def fail(self, why):
@@ -179,6 +182,7 @@ class Score:
         if not found <= seen or bool(seen) != bool(found):
             return self.fail(f"the reference finds {sorted(seen)}, and check {sorted(found)}")
         is_broken = any(it["label"] == "broken-rule" for it in labels)
+        is_stopped = any(it["label"] == "stopped" for it in labels)
         for it in lost:
             if seen & {code for code in it["codes"] if phase(code) > first}:
                 self.missed.append("behind a phase before")
@@ -186,6 +190,8 @@ class Score:
                 self.missed.append("harmless")
             elif it["label"] == "mishap" and is_broken:
                 self.missed.append("a mishap beside a broken rule")
+            elif is_stopped:
+                self.missed.append("of what wasn't ended")
             else:
                 self.missed.append(f"unexplained {it.get('rule', it.get('mishap'))} beside {sorted(found)}")
         return self

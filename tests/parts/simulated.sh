@@ -22,4 +22,7 @@ counted 'histories' python3 -B tests/histories.py "$program" "$scratch/refuse.so
 
 # what was done wrong, as the simulator says it, against what `check` finds
 counted 'labels' python3 -B tests/labels.py "$program" "$scratch/refuse.so"
+
+# folders that are drawn, and runs that stop
+counted 'swarms' python3 -B tests/swarm.py "$program" "$scratch/refuse.so"
 end

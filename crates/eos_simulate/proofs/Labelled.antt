@@ -1,16 +1,18 @@
 -- A deed more, and its label.
-use Rattle.std.proofs.Common.{◌≡◌, false, ◌<◌, ◌≤◌, ◌+◌, ℕ, List, [], ◌∷◌, ◌++◌, drop, length, get_or, refl, sym, ap, ◌∙◌, append_assoc}
+use Rattle.std.proofs.Common.{◌≡◌, Bool, false, ◌<◌, ◌≤◌, ◌+◌, ℕ, List, [], ◌∷◌, ◌++◌, drop, length, get_or, refl, sym, ap, subst, ◌∙◌, append_assoc}
 use Rattle.std.proofs.lemmas.List.{drop_all, drop_more, append-nil}
 use Rattle.eos_machine.specs.declared.event.Event.{Event}
 use Rattle.eos_machine.specs.declared.event.Reply.{Reply}
 use Rattle.eos_machine.specs.declared.event.Reply.TheVariants.{Done, Fenced, OutOfOrder, DuplicateKept, WrongState, Busy, StaleGeneration, EpochsSpent, Unknown, OutOfMemory, Full}
 use Rattle.eos_cluster.specs.Courses.{Course, IsStepUnder, IsTakenUnder}
-use Rattle.eos_drive.specs.Driven.{after_deed}
+use Rattle.eos_machine.specs.declared.config.Config.{Config}
+use Rattle.eos_drive.specs.Driven.{after_deed, after}
 use Rattle.eos_drive.specs.declared.deed.Deed.{Deed}
 use Rattle.eos_drive.specs.declared.deed.Deed.TheVariants as done
 use Rattle.eos_simulate.specs.declared.labels.Label.{Label}
-use Rattle.eos_simulate.specs.Labels.{deed_labels, labels_from}
-use Rattle.eos_simulate.specs.steps.AddedLabels.{AddsLabels, is_left_out}
+use Rattle.eos_simulate.specs.Histories.{new_course}
+use Rattle.eos_simulate.specs.Labels.{deed_labels, labels_from, AreStopLabels, AreLabelsOf}
+use Rattle.eos_simulate.specs.steps.AddedLabels.{AddsLabels, AddsStop, is_left_out}
 
 -- ---- the cluster
 
@@ -46,9 +48,29 @@ labelled first s t deeds i labels more d lt is further next h =
     ∙ (append_assoc labels (deed_labels s (i + 1) d) rest
     ∙ (ap (λ (x : List Deed). labels ++ labels_from (i + 1) s x) (sym whole) ∙ h)))
 
+-- the deeds that are left lead from here to the end
+abbrev pub GoesOn : Course → List Deed → ℕ → Course → Type 0
+GoesOn first deeds place s = after s (drop place deeds) ≡ after first deeds
+
+pub further : (first s t : Course) (deeds : List Deed) (i : ℕ) (d : Deed) → i < length deeds → d ≡ get_or deeds i d → t ≡ after_deed s d → GoesOn first deeds i s → GoesOn first deeds (i + 1) t
+further first s t deeds i d lt is next h =
+    let whole : drop i deeds ≡ d ∷ drop (i + 1) deeds = drop_more deeds i d lt ∙ ap (λ (x : Deed). x ∷ drop (i + 1) deeds) (sym is) in
+    ap (λ (c : Course). after c (drop (i + 1) deeds)) next ∙ (ap (λ (x : List Deed). after s x) (sym whole) ∙ h)
+
+at_end : (first s : Course) (deeds : List Deed) (i : ℕ) → length deeds ≤ i → GoesOn first deeds i s → s ≡ after first deeds
+at_end first s deeds i all h = ap (λ (x : List Deed). after s x) (sym (drop_all i deeds all)) ∙ h
+
 pub all_labels : (first s : Course) (deeds : List Deed) (i : ℕ) (labels : List Label) → length deeds ≤ i → GoBehind first deeds i s labels → labels ≡ labels_from 1 first deeds
 all_labels first s deeds i labels all h =
     sym (append-nil labels) ∙ (ap (λ (x : List Deed). labels ++ labels_from (i + 1) s x) (sym (drop_all i deeds all)) ∙ h)
+
+pub stopped : (stops : Bool) (c : Config) (s : Course) (deeds : List Deed) (i : ℕ) (labels more : List Label) → length deeds ≤ i → GoBehind (new_course c) deeds i s labels → GoesOn (new_course c) deeds i s
+    → AddsStop stops s.world (length deeds) labels more → AreLabelsOf stops c deeds more
+stopped stops c s deeds i labels more all h g adds = record {
+  last = adds.last;
+  whole = adds.whole ∙ ap (λ (x : List Label). x ++ adds.last) (all_labels (new_course c) s deeds i labels all h);
+  stop = subst (λ (x : Course). AreStopLabels stops x.world (length deeds) adds.last) (at_end (new_course c) s deeds i all g) adds.stop;
+}
 
 -- labels, and then others
 pub with_more : {a b c x y : List Label} → AddsLabels a b x → AddsLabels b c y → AddsLabels a c (x ++ y)

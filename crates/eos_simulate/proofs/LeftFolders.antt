@@ -115,10 +115,10 @@ history_said true h deeds None is = is
 history_said true h deeds (Some text) is = tt
 history_said false h deeds text is = tt
 
-labels_said : (keeps : Bool) (c : Config) (deeds : List Deed) (text : Option (List ℕ)) → AreLabelsIf keeps c deeds text → IsSaidIf keeps text
-labels_said true c deeds None is = is
-labels_said true c deeds (Some text) is = tt
-labels_said false c deeds text is = tt
+labels_said : (keeps : Bool) (c : Config) (stops : Bool) (deeds : List Deed) (text : Option (List ℕ)) → AreLabelsIf keeps c stops deeds text → IsSaidIf keeps text
+labels_said true c stops deeds None is = is
+labels_said true c stops deeds (Some text) is = tt
+labels_said false c stops deeds text is = tt
 
 abbrev AreSaidIf : Simulation → Texts → Type 0
 AreSaidIf words texts = IsSaidIf (is_some words.history) texts.0 × IsSaidIf (is_some words.labels) texts.1
@@ -126,9 +126,9 @@ AreSaidIf words texts = IsSaidIf (is_some words.history) texts.0 × IsSaidIf (is
 run_said : (schedule : Option (Bor (List ℕ))) (words : Simulation) (holds : List ℕ → Entry) (left rest : Option (List ℕ)) (e : EvidenceParts) (texts : Texts)
     → IsRunBy schedule words holds left rest e texts → AreSaidIf words texts
 run_said None words holds left rest e texts is =
-    (history_said (is_some words.history) (head_said words) is.deeds texts.0 is.texts_are.0, labels_said (is_some words.labels) (config_said words.sizes) is.deeds texts.1 is.texts_are.1)
+    (history_said (is_some words.history) (head_said words) is.deeds texts.0 is.texts_are.0, labels_said (is_some words.labels) (config_said words.sizes) words.stop_anywhere is.deeds texts.1 is.texts_are.1)
 run_said (Some path) words holds left rest e texts is =
-    (history_said (is_some words.history) is.0.head is.2.deeds texts.0 is.2.texts_are.0, labels_said (is_some words.labels) is.0.head.config is.2.deeds texts.1 is.2.texts_are.1)
+    (history_said (is_some words.history) is.0.head is.2.deeds texts.0 is.2.texts_are.0, labels_said (is_some words.labels) is.0.head.config words.stop_anywhere is.2.deeds texts.1 is.2.texts_are.1)
 
 -- a text that ended stands at its path
 ended_there : (path : Bor (List ℕ)) (file : Option (List ℕ)) (text : List ℕ) (old begun made new : List ℕ → Entry) → IsBegunIf (Some path) file old begun → IsEndedIf file (Some text) made new
@@ -197,20 +197,21 @@ simulated words left rest old begun ready made labelled ended new files texts e 
 
 -- ---- the run by words
 
-abbrev IsOfParts : WantedTexts → EvidenceParts → Texts → Config → Switches → ℕ → ℕ → Type 0
-IsOfParts keeps e texts c u seed count = IsOfScript c u (record { config = c; switches = u; seed = seed; words = count }) keeps e texts
+abbrev IsOfParts : WantedTexts → EvidenceParts → Texts → Bool → Config → Switches → ℕ → ℕ → Type 0
+IsOfParts keeps e texts stops c u seed count = IsOfScript c u stops (record { config = c; switches = u; seed = seed; words = count }) keeps e texts
 
 pub of_words : (words : Simulation) (course : Course) (keeps : WantedTexts) (e : EvidenceParts) (texts : Texts) → course.config ≡ config_said words.sizes
-    → (course.seed ≡ words.seed) × (course.words ≡ words.events) → course.switches ≡ switches_said words.switches.items → keeps ≡ wanted_by words
-    → IsOfScript course.config course.switches (head_of course) keeps e texts → IsOfWords words e texts
-of_words words course keeps e texts config script switches wanted is =
-    let sizes = subst (λ (c : Config). IsOfParts keeps e texts c course.switches course.seed course.words) config is in
-    let rules = subst (λ (u : Switches). IsOfParts keeps e texts (config_said words.sizes) u course.seed course.words) switches sizes in
-    let seeded = subst (λ (n : ℕ). IsOfParts keeps e texts (config_said words.sizes) (switches_said words.switches.items) n course.words) script.0 rules in
-    let counted = subst (λ (n : ℕ). IsOfParts keeps e texts (config_said words.sizes) (switches_said words.switches.items) words.seed n) script.1 seeded in
-    subst (λ (k : WantedTexts). IsOfParts k e texts (config_said words.sizes) (switches_said words.switches.items) words.seed words.events) wanted counted
+    → (course.seed ≡ words.seed) × (course.words ≡ words.events) → course.switches ≡ switches_said words.switches.items → course.stops ≡ words.stop_anywhere → keeps ≡ wanted_by words
+    → IsOfScript course.config course.switches course.stops (head_of course) keeps e texts → IsOfWords words e texts
+of_words words course keeps e texts config script switches stops wanted is =
+    let sizes = subst (λ (c : Config). IsOfParts keeps e texts course.stops c course.switches course.seed course.words) config is in
+    let rules = subst (λ (u : Switches). IsOfParts keeps e texts course.stops (config_said words.sizes) u course.seed course.words) switches sizes in
+    let seeded = subst (λ (n : ℕ). IsOfParts keeps e texts course.stops (config_said words.sizes) (switches_said words.switches.items) n course.words) script.0 rules in
+    let counted = subst (λ (n : ℕ). IsOfParts keeps e texts course.stops (config_said words.sizes) (switches_said words.switches.items) words.seed n) script.1 seeded in
+    let ended = subst (λ (b : Bool). IsOfParts keeps e texts b (config_said words.sizes) (switches_said words.switches.items) words.seed words.events) stops counted in
+    subst (λ (k : WantedTexts). IsOfParts k e texts words.stop_anywhere (config_said words.sizes) (switches_said words.switches.items) words.seed words.events) wanted ended
 
 -- ---- the run by lines
 
-pub of_lines : (words : Simulation) (s : Schedule) (keeps : WantedTexts) (e : EvidenceParts) (texts : Texts) → keeps ≡ wanted_by words → IsOfLines s keeps e texts → IsOfLines s (wanted_by words) e texts
-of_lines words s keeps e texts wanted is = subst (λ (k : WantedTexts). IsOfLines s k e texts) wanted is
+pub of_lines : (words : Simulation) (s : Schedule) (stops : Bool) (keeps : WantedTexts) (e : EvidenceParts) (texts : Texts) → keeps ≡ wanted_by words → IsOfLines s stops keeps e texts → IsOfLines s stops (wanted_by words) e texts
+of_lines words s stops keeps e texts wanted is = subst (λ (k : WantedTexts). IsOfLines s stops k e texts) wanted is

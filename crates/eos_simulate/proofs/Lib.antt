@@ -21,6 +21,7 @@ pub mod ItemTexts
 pub mod LeftEvidence
 mod OneEvidence
 mod Labelled
+mod Stopping
 mod LeftFolders
 mod MadeRuns
 mod ScheduleTexts

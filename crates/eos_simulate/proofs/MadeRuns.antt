@@ -1,5 +1,5 @@
 -- What a run made, put together.
-use Rattle.std.proofs.Common.{◌≡◌, false, List, [], IfSome}
+use Rattle.std.proofs.Common.{◌≡◌, false, Bool, List, [], IfSome}
 use Rattle.std.specs.List.{AllZip}
 use Rattle.eos_evidence.specs.Evidence.{EvidenceParts}
 use Rattle.eos_machine.specs.declared.config.Config.{Config}
@@ -16,10 +16,10 @@ use Rattle.eos_simulate.specs.declared.made.WantedTexts.{WantedTexts}
 use Rattle.eos_simulate.specs.Schedules.{HasRightLogs, HasNoFaultInLogs}
 use Rattle.eos_simulate.specs.Folders.{Texts, IsOfScript, IsOfLines}
 
-pub of_script : (c : Config) (u : Switches) (h : Head) (keeps : WantedTexts) (before deeds : List Deed) (e : EvidenceParts) (texts : Texts) → before ≡ [] → (before ≡ [] → IsLeftBy c deeds e)
-    → HasBroken u deeds → (any_on u ≡ false → IsOfSchedule e) → (any_on u ≡ false → HasRightLogs e) → (any_on u ≡ false → HasNoFaultInLogs e) → IsHistoryIf keeps.history h deeds texts.0
-    → AreLabelsIf keeps.labels c deeds texts.1 → IsOfScript c u h keeps e texts
-of_script c u h keeps before deeds e texts none left broken schedule right faultless history labels = record {
+pub of_script : (c : Config) (u : Switches) (stops : Bool) (h : Head) (keeps : WantedTexts) (before deeds : List Deed) (e : EvidenceParts) (texts : Texts) → before ≡ [] → (before ≡ [] → IsLeftBy c deeds e)
+    → HasBroken u deeds → (stops ≡ false → any_on u ≡ false → IsOfSchedule e) → (stops ≡ false → any_on u ≡ false → HasRightLogs e) → (stops ≡ false → any_on u ≡ false → HasNoFaultInLogs e) → IsHistoryIf keeps.history h deeds texts.0
+    → AreLabelsIf keeps.labels c stops deeds texts.1 → IsOfScript c u stops h keeps e texts
+of_script c u stops h keeps before deeds e texts none left broken schedule right faultless history labels = record {
   deeds = deeds;
   left = left none;
   broken = broken;
@@ -29,10 +29,10 @@ of_script c u h keeps before deeds e texts none left broken schedule right fault
   texts_are = (history, labels);
 }
 
-pub of_lines : (s : Schedule) (keeps : WantedTexts) (before deeds : List Deed) (e : EvidenceParts) (texts : Texts) → before ≡ [] → (before ≡ [] → IsLeftBy s.head.config deeds e)
+pub of_lines : (s : Schedule) (stops : Bool) (keeps : WantedTexts) (before deeds : List Deed) (e : EvidenceParts) (texts : Texts) → before ≡ [] → (before ≡ [] → IsLeftBy s.head.config deeds e)
     → (before ≡ [] → acts_of deeds ≡ acts_said s.lines) → (before ≡ [] → AllZip IsAsSaid deeds s.lines) → (before ≡ [] → IfSome s.tail (FitsTotals deeds)) → IsHistoryIf keeps.history s.head deeds texts.0
-    → AreLabelsIf keeps.labels s.head.config deeds texts.1 → IsOfLines s keeps e texts
-of_lines s keeps before deeds e texts none left done answered totals history labels = record {
+    → AreLabelsIf keeps.labels s.head.config stops deeds texts.1 → IsOfLines s stops keeps e texts
+of_lines s stops keeps before deeds e texts none left done answered totals history labels = record {
   deeds = deeds;
   left = left none;
   done = done none;

@@ -44,31 +44,32 @@ abbrev pub wanted_by : Simulation → WantedTexts
 wanted_by words = record { history = is_some words.history; labels = is_some words.labels }
 
 -- the texts of what was done are those that are wanted
-abbrev pub AreTextsOf : WantedTexts → Head → Config → List Deed → Texts → Type 0
-AreTextsOf keeps h c deeds texts = IsHistoryIf keeps.history h deeds texts.0 × AreLabelsIf keeps.labels c deeds texts.1
+abbrev pub AreTextsOf : WantedTexts → Head → Config → Bool → List Deed → Texts → Type 0
+AreTextsOf keeps h c stops deeds texts = IsHistoryIf keeps.history h deeds texts.0 × AreLabelsIf keeps.labels c stops deeds texts.1
 
--- a script's run, in a cluster of these sizes that breaks these rules, made this evidence, and these texts
-pub record IsOfScript (c : Config) (u : Switches) (h : Head) (keeps : WantedTexts) (e : EvidenceParts) (texts : Texts) : Type 0 where
+-- a script's run, in a cluster of these sizes that breaks these rules, made this evidence, and these texts; where it doesn't stop after the
+-- script it comes to rest
+pub record IsOfScript (c : Config) (u : Switches) (stops : Bool) (h : Head) (keeps : WantedTexts) (e : EvidenceParts) (texts : Texts) : Type 0 where
   pub deeds : List Deed
   pub left : IsLeftBy c deeds e
   pub broken : HasBroken u deeds
-  pub schedule : any_on u ≡ false → IsOfSchedule e
-  pub right : any_on u ≡ false → HasRightLogs e
-  pub faultless : any_on u ≡ false → HasNoFaultInLogs e
-  pub texts_are : AreTextsOf keeps h c deeds texts
+  pub schedule : stops ≡ false → any_on u ≡ false → IsOfSchedule e
+  pub right : stops ≡ false → any_on u ≡ false → HasRightLogs e
+  pub faultless : stops ≡ false → any_on u ≡ false → HasNoFaultInLogs e
+  pub texts_are : AreTextsOf keeps h c stops deeds texts
 
 -- the run that these words ask for did
 abbrev pub IsOfWords : Simulation → EvidenceParts → Texts → Type 0
-IsOfWords words e texts = IsOfScript (config_said words.sizes) (switches_said words.switches.items) (head_said words) (wanted_by words) e texts
+IsOfWords words e texts = IsOfScript (config_said words.sizes) (switches_said words.switches.items) words.stop_anywhere (head_said words) (wanted_by words) e texts
 
 -- a run of this schedule did
-pub record IsOfLines (s : Schedule) (keeps : WantedTexts) (e : EvidenceParts) (texts : Texts) : Type 0 where
+pub record IsOfLines (s : Schedule) (stops : Bool) (keeps : WantedTexts) (e : EvidenceParts) (texts : Texts) : Type 0 where
   pub deeds : List Deed
   pub left : IsLeftBy s.head.config deeds e
   pub done : acts_of deeds ≡ acts_said s.lines
   pub answered : AllZip IsAsSaid deeds s.lines
   pub totals : IfSome s.tail (FitsTotals deeds)
-  pub texts_are : AreTextsOf keeps s.head s.head.config deeds texts
+  pub texts_are : AreTextsOf keeps s.head s.head.config stops deeds texts
 
 -- the text of the file of this path; of `-`, which is standard input, all that was left of it
 abbrev pub IsTextOf : Bool → (List ℕ → Entry) → List ℕ → Option (List ℕ) → Option (List ℕ) → List ℕ → Type 0
@@ -87,7 +88,7 @@ pub record IsScheduleAt (holds : List ℕ → Entry) (path : List ℕ) (left res
 -- the run that the words ask for, by a schedule or without one
 abbrev pub IsRunBy : Option (Bor (List ℕ)) → Simulation → (List ℕ → Entry) → Option (List ℕ) → Option (List ℕ) → EvidenceParts → Texts → Type 0
 IsRunBy None words holds left rest e texts = IsOfWords words e texts
-IsRunBy (Some path) words holds left rest e texts = (s : Schedule) × IsScheduleAt holds path.now left rest s × IsOfLines s (wanted_by words) e texts
+IsRunBy (Some path) words holds left rest e texts = (s : Schedule) × IsScheduleAt holds path.now left rest s × IsOfLines s words.stop_anywhere (wanted_by words) e texts
 
 abbrev pub IsRun : Simulation → (List ℕ → Entry) → Option (List ℕ) → Option (List ℕ) → EvidenceParts → Texts → Type 0
 IsRun words holds left rest e texts = IsRunBy words.schedule words holds left rest e texts

@@ -12,8 +12,7 @@ use Rattle.eos_machine.specs.LogIndexes.{topic_of, number_of}
 use Rattle.eos_machine.specs.Switching.{switch_name}
 use Rattle.eos_drive.specs.Mishaps.{name_in}
 use Rattle.eos_drive.specs.declared.deed.Deed.{Deed}
-use Rattle.eos_simulate.specs.Histories.{new_course}
-use Rattle.eos_simulate.specs.Labels.{labels_from}
+use Rattle.eos_simulate.specs.Labels.{AreLabelsOf}
 use Rattle.eos_simulate.specs.declared.labels.Label.{Label}
 use Rattle.eos_simulate.specs.declared.labels.Taken.{Taken}
 use Rattle.eos_simulate.specs.declared.labels.Wrong.{Wrong}
@@ -67,22 +66,32 @@ unfoldable pub mishap_text : ℕ → List ℕ → List ℕ
 mishap_text number mishap =
     (codes "{\"codes\":" ++ mishap_codes (name_in mishap)) ++ ((codes ",\"label\":\"mishap\",\"mishap\":" ++ compact_text (string mishap)) ++ (numbered number ++ codes "}\n"))
 
+-- the codes of the faults that may follow where a run stops
+unfoldable pub stop_codes : List ℕ
+stop_codes = codes "[\"1.11\",\"2.5\",\"5.7\",\"5.11\"]"
+
+unfoldable pub stop_text : ℕ → List ℕ
+stop_text number = (codes "{\"codes\":" ++ stop_codes) ++ ((codes ",\"label\":\"stopped\",\"number\":" ++ decimal number) ++ codes "}\n")
+
 abbrev pub wrong_text : Config → ℕ → Wrong → List ℕ
 wrong_text c number (wrongs.Broken rule taken) = broken_text c number rule taken
 wrong_text c number (wrongs.Lost message) = network_text (codes "lost") number message
 wrong_text c number (wrongs.Repeated message) = network_text (codes "repeated") number message
 wrong_text c number (wrongs.Erred mishap) = mishap_text number (utf8_or_empty mishap)
+wrong_text c number wrongs.Stopped = stop_text number
 
 abbrev pub label_text : Config → Label → List ℕ
 label_text c label = wrong_text c label.number label.wrong
 
 -- of what was done to a new cluster of these sizes
-abbrev pub labels_text : Config → List Deed → List ℕ
-labels_text c deeds = flat_map (label_text c) (labels_from 1 (new_course c) deeds)
+pub record IsLabelsText (stops : Bool) (c : Config) (deeds : List Deed) (text : List ℕ) : Type 0 where
+  pub labels : List Label
+  pub are : AreLabelsOf stops c deeds labels
+  pub says : text ≡ flat_map (label_text c) labels
 
 -- where they are wanted
-abbrev pub AreLabelsIf : Bool → Config → List Deed → Option (List ℕ) → Type 0
-AreLabelsIf true c deeds (Some text) = text ≡ labels_text c deeds
-AreLabelsIf true c deeds None = ⊥
-AreLabelsIf false c deeds (Some text) = ⊥
-AreLabelsIf false c deeds None = ⊤
+abbrev pub AreLabelsIf : Bool → Config → Bool → List Deed → Option (List ℕ) → Type 0
+AreLabelsIf true c stops deeds (Some text) = IsLabelsText stops c deeds text
+AreLabelsIf true c stops deeds None = ⊥
+AreLabelsIf false c stops deeds (Some text) = ⊥
+AreLabelsIf false c stops deeds None = ⊤

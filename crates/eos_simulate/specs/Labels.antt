@@ -1,5 +1,5 @@
 -- The labels of a run: what was done wrong, each with the number of its line in the history. They are a function of what was done.
-use Rattle.std.specs.Prelude.{ℕ, ◌+◌, Bool, List, [], ◌∷◌, ◌++◌, slice_get, if◌then◌else◌}
+use Rattle.std.specs.Prelude.{◌≡◌, ℕ, ◌+◌, Bool, true, false, List, [], ◌∷◌, ◌++◌, length, slice_get, if◌then◌else◌}
 use Rattle.eos_machine.specs.declared.event.Event.{Event}
 use Rattle.eos_machine.specs.declared.event.Event.TheVariants as events
 use Rattle.eos_machine.specs.declared.event.Reply.{Reply}
@@ -9,11 +9,15 @@ use Rattle.eos_machine.specs.declared.switches.Switch.TheVariants.{KeepDuplicate
 use Rattle.eos_machine.specs.declared.switches.Switches.{Switches}
 use Rattle.eos_cluster.specs.Breaches.{broken, log_of}
 use Rattle.eos_cluster.specs.Courses.{Course}
-use Rattle.eos_drive.specs.Driven.{after_deed}
+use Rattle.eos_machine.specs.declared.config.Config.{Config}
+use Rattle.eos_machine.specs.Rest.{IsAtRest}
+use Rattle.eos_machine.specs.World.{World}
+use Rattle.eos_drive.specs.Driven.{after_deed, after}
 use Rattle.eos_drive.specs.declared.deed.Deed.{Deed}
 use Rattle.eos_drive.specs.declared.deed.Deed.TheVariants as done
 use Rattle.eos_drive.specs.declared.deed.Note.{Note}
 use Rattle.eos_drive.specs.declared.deed.Note.TheVariants as notes
+use Rattle.eos_simulate.specs.Histories.{new_course}
 use Rattle.eos_simulate.specs.declared.labels.Label.{Label}
 use Rattle.eos_simulate.specs.declared.labels.Taken.{Taken}
 use Rattle.eos_simulate.specs.declared.labels.Wrong.{Wrong}
@@ -71,7 +75,18 @@ deed_labels s number (done.Asked event reply) = event_labels s number event repl
 deed_labels s number (done.Set switches) = []
 deed_labels s number (done.Noted note) = record { number = number; wrong = wrong_note note } ∷ []
 
+-- where a run stops after so many deeds, that the cluster isn't at rest
+abbrev pub AreStopLabels : Bool → World → ℕ → List Label → Type 0
+AreStopLabels false w number labels = labels ≡ []
+AreStopLabels true w number labels = (IsAtRest w → labels ≡ []) × ((IsAtRest w → ⊥) → labels ≡ record { number = number; wrong = wrongs.Stopped } ∷ [])
+
 -- of these deeds, numbered from this on
 abbrev pub labels_from : ℕ → Course → List Deed → List Label
 labels_from number s [] = []
 labels_from number s (d ∷ ds) = deed_labels s number d ++ labels_from (number + 1) (after_deed s d) ds
+
+-- the labels of a run, which may stop before the cluster is at rest: those of its deeds, and of that
+pub record AreLabelsOf (stops : Bool) (c : Config) (deeds : List Deed) (labels : List Label) : Type 0 where
+  pub last : List Label
+  pub whole : labels ≡ labels_from 1 (new_course c) deeds ++ last
+  pub stop : AreStopLabels stops (after (new_course c) deeds).world (length deeds) last

@@ -1,5 +1,6 @@
 pub mod Simulated
 pub mod Settings
+pub mod Swarms
 pub mod Histories
 pub mod Replays
 pub mod HistoryTexts

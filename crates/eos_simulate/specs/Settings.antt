@@ -1,5 +1,5 @@
 -- What the words of the command line ask of a simulated cluster.
-use Rattle.std.specs.Prelude.{ℕ, List, Bool, Option, min, option_map, unwrap_or, bytes_eq}
+use Rattle.std.specs.Prelude.{ℕ, List, Bool, true, Option, min, nat_le, option_map, unwrap_or, bytes_eq}
 use Rattle.std.specs.Borrow.{Bor}
 use Rattle.std.specs.List.{list_any}
 use Rattle.eos_words.specs.declared.request.Sizes.{Sizes}
@@ -36,6 +36,16 @@ rates_said r = record {
   restart_coordinator = rate_said r.restart_coordinator;
   abort = rate_said r.abort;
 }
+
+-- a cluster of these sizes has something in which this rule is broken
+abbrev pub can_bite : Config → Switch → Bool
+can_bite c KeepDuplicates = true
+can_bite c NoFence = true
+can_bite c NoBump = true
+can_bite c LoseMarker = true
+can_bite c SwapMarker = nat_le 2 c.outputs
+can_bite c HideListing = nat_le 2 c.outputs
+can_bite c IgnoreGeneration = nat_le 2 c.applications
 
 -- one of these words is the switch's name
 abbrev pub is_named : List (Bor (List ℕ)) → Switch → Bool

@@ -1,13 +1,13 @@
 //! What a simulated cluster does, as the words of the command line say.
 
-ghost use Rattle.std.specs.Prelude.{◌≡◌, min, bytes_eq, not, true, false, None, IfSome, IfOk, option_map, unwrap_or};
-ghost use Rattle.eos_simulate.specs.Settings.{config_said, rates_said, is_named, switches_said};
+ghost use Rattle.std.specs.Prelude.{◌≡◌, min, bytes_eq, not, ◌&&◌, true, false, None, IfSome, IfOk, option_map, unwrap_or};
+ghost use Rattle.eos_simulate.specs.Settings.{config_said, rates_said, can_bite, is_named, switches_said};
 ghost use Rattle.eos_simulate.specs.steps.Heads.{head_of};
 ghost use Rattle.eos_machine.specs.Switching.{switch_name, any_on};
 
 use crate::making::SimulationFault;
 use eos_cluster::{Switch, Switches};
-use eos_drive::{ChosenMishap, Mishap, Rates, Settings, Turning};
+use eos_drive::{ChosenMishap, Rates, Settings, Turning};
 use eos_history_lines::Head;
 use eos_machine::Config;
 use eos_words::{Simulation, Sizes, Thousandths};
@@ -36,6 +36,8 @@ pub struct Course {
     switch_at: Option<u64>,
     /// Whether a few events after the script show them.
     pub(crate) is_shown: bool,
+    /// Whether the run ends after the script, at rest or not.
+    pub(crate) stops: bool,
     mishaps: Vec<ChosenMishap>,
 }
 
@@ -47,21 +49,18 @@ impl Course {
         ensures rates { IfOk result (λ course. course.rates ≡ rates_said words.now.rates) }
         ensures switches { IfOk result (λ course. course.switches ≡ switches_said words.now.switches.items) }
         ensures turning { IfOk result (λ course. course.switch_at ≡ words.now.switch_at) }
-        ensures shown { IfOk result (λ course. course.is_shown ≡ not words.now.no_tail) }
+        ensures shown { IfOk result (λ course. course.is_shown ≡ (not words.now.no_tail && not words.now.stop_anywhere)) }
+        ensures stops { IfOk result (λ course. course.stops ≡ words.now.stop_anywhere) }
     {
+        if words.swarm && words.count.is_none() {
+            return Err(SimulationFault::Unfit("--swarm", "no --count"));
+        }
         let rates = rates_of(&words.rates);
         if !rates.fit() {
             return Err(SimulationFault::Unfit("rates", "more than 1000 in all"));
         }
-        if let Some(at) = words.switch_at {
-            if words.switches.is_empty() {
-                return Err(SimulationFault::Unfit("--switch-at", "no --switch"));
-            }
-            if at > words.events {
-                return Err(SimulationFault::Unfit("--switch-at", "more than --events"));
-            }
-        } else if words.no_tail {
-            return Err(SimulationFault::Unfit("--no-tail", "no --switch-at"));
+        if let Some((what, why)) = unturned(words) {
+            return Err(SimulationFault::Unfit(what, why));
         }
         let Some(switches) = switches_named(words.switches.as_slice()) else {
             return Err(SimulationFault::Unfit("--switch", "no such rule"));
@@ -78,7 +77,8 @@ impl Course {
             rates,
             switches,
             switch_at: words.switch_at,
-            is_shown: !words.no_tail,
+            is_shown: !words.no_tail && !words.stop_anywhere,
+            stops: words.stop_anywhere,
             mishaps,
         })
     }
@@ -100,6 +100,7 @@ impl Course {
         ensures honest { any_on self.now.switches ≡ false → result.turning ≡ None }
         ensures rates { result.rates ≡ self.now.rates }
         ensures mishaps { result.mishaps.now ≡ self.now.mishaps.items }
+        ensures stops { result.stops ≡ self.now.stops }
         ensures turning { any_on self.now.switches ≡ true → result.turning ≡ option_map (λ at. record { after = at; switches = self.now.switches }) self.now.switch_at }
     {
         Settings {
@@ -112,7 +113,22 @@ impl Course {
                 _ => None,
             },
             mishaps: self.mishaps.as_slice(),
+            stops: self.stops,
         }
+    }
+}
+
+/// What doesn't fit of when the switches are set, and why.
+fn unturned(words: &Simulation<'_>) -> Option<(&'static str, &'static str)> {
+    match words.switch_at {
+        Some(_) if words.switches.is_empty() => Some(("--switch-at", "no --switch")),
+        Some(at) if at > words.events => Some(("--switch-at", "more than --events")),
+        Some(_) => None,
+        None if words.no_tail => Some(("--no-tail", "no --switch-at")),
+        None if words.stop_anywhere && !words.switches.is_empty() => {
+            Some(("--stop-anywhere", "no --switch-at of the --switch"))
+        }
+        None => None,
     }
 }
 
@@ -122,28 +138,40 @@ fn unfit(
     switches: Switches,
     mishaps: &[ChosenMishap],
 ) -> Option<(&'static str, &'static str)> {
-    if switches.swap_marker && config.outputs < 2 {
-        return Some(("swap-marker", "it needs two partitions of `out`"));
-    }
-    if switches.hide_listing && config.outputs < 2 {
-        return Some(("hide-listing", "it needs two partitions of `out`"));
-    }
-    if switches.ignore_generation && config.applications < 2 {
-        return Some((
-            "ignore-generation",
-            "it needs two applications of the first group",
-        ));
+    for switch in SWITCHES {
+        if is_on(switches, switch) && !can_bite(config, switch) {
+            return Some((switch.name(), needed_by(switch)));
+        }
     }
     for chosen in mishaps {
-        if chosen.mishap == Mishap::AbortedInput && !config.chain {
-            return Some(("aborted-input", "it needs --chain"));
+        if chosen.mishap.is_chained() && !config.chain {
+            return Some((chosen.mishap.name(), "it needs --chain"));
         }
     }
     None
 }
 
+/// Whether a cluster of these sizes has something in which this rule is broken.
+pub(crate) fn can_bite(config: Config, switch: Switch) -> bool
+    ensures { result ≡ can_bite config switch }
+{
+    match switch {
+        Switch::SwapMarker | Switch::HideListing => config.outputs >= 2,
+        Switch::IgnoreGeneration => config.applications >= 2,
+        Switch::KeepDuplicates | Switch::NoFence | Switch::NoBump | Switch::LoseMarker => true,
+    }
+}
+
+/// What a switch needs that can't bite.
+fn needed_by(switch: Switch) -> &'static str {
+    match switch {
+        Switch::IgnoreGeneration => "it needs two applications of the first group",
+        _ => "it needs two partitions of `out`",
+    }
+}
+
 /// How large the cluster is; these are the sizes where the words don't say.
-fn config_of(sizes: &Sizes) -> Config
+pub(crate) fn config_of(sizes: &Sizes) -> Config
     ensures { result ≡ config_said sizes.now }
 {
     Config {
@@ -166,7 +194,7 @@ fn size_of(chosen: Option<u64>, size: usize) -> usize
     }
 }
 
-fn rates_of(words: &Thousandths) -> Rates
+pub(crate) fn rates_of(words: &Thousandths) -> Rates
     ensures { result ≡ rates_said words.now }
 {
     Rates {

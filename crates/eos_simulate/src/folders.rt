@@ -1,10 +1,14 @@
 //! `simulate --count`: many folders, of seeds one after the other.
 
+ghost use Rattle.std.specs.Prelude.{◌≡◌, IfOk};
+
 use crate::course::Course;
 use crate::folder::{end_unleft, end_unmade};
 use crate::leaving::{Unleft, Unsimulated, simulate_to};
 use crate::making::SimulationFault;
 use crate::recipe::index_line;
+use crate::swarm::{Drawn, drawn_for};
+use eos_cluster::Switch;
 use eos_disk::{DiskMut, HostDisk};
 use eos_ending::{Ending, STANDARD, Subject, end, end_unchanged};
 use eos_words::Simulation;
@@ -43,34 +47,78 @@ fn simulate_next(rt: &HostRuntime, words: &Simulation<'_>, place: u64) -> Result
     let alloc = rt.alloc();
     let folder = next_folder(alloc, words.folder, place)?;
     let labels = format!(in alloc; "{folder}.labels")?;
-    let own = own_words(alloc, words, place, folder.as_str(), labels.as_str())?;
-    leave_next(rt, &own)
+    let seed = words.seed.wrapping_add(place);
+    let drawn = drawn_for(alloc, words, seed)?;
+    let mishap = match drawn.mishap {
+        Some(chosen) => Some(chosen.text(alloc)?),
+        None => None,
+    };
+    let own = Own {
+        seed,
+        drawn,
+        mishap: match &mishap {
+            Some(text) => Some(text.as_str()),
+            None => None,
+        },
+        folder: folder.as_str(),
+        labels: labels.as_str(),
+    };
+    leave_next(rt, &own_words(alloc, words, own)?)
 }
 
-/// The words of a single call for the folder at this place.
+/// What a folder has of its own.
+#[derive(Clone, Copy)]
+struct Own<'a> {
+    seed: u64,
+    drawn: Drawn,
+    /// The word of the mishap that was drawn.
+    mishap: Option<&'a str>,
+    folder: &'a str,
+    labels: &'a str,
+}
+
+/// The words of a single call for a folder.
 fn own_words<'a>(
     alloc: Global,
     words: &'a Simulation<'a>,
-    place: u64,
-    folder: &'a str,
-    labels: &'a str,
-) -> Result<Simulation<'a>, AllocError> {
+    own: Own<'a>,
+) -> Result<Simulation<'a>, AllocError>
+    ensures seed { IfOk result (λ single. (single.seed ≡ own.entry.seed) × (single.events ≡ words.now.events)) }
+    ensures sizes { IfOk result (λ single. (single.sizes ≡ own.entry.drawn.sizes) × (single.rates ≡ own.entry.drawn.rates)) }
+    ensures turning { IfOk result (λ single. (single.switch_at ≡ own.entry.drawn.switch_at) × (single.no_tail ≡ own.entry.drawn.no_tail)) }
+{
+    let mut switches = copies(alloc, words.switches.as_slice())?;
+    push_rule(&mut switches, own.drawn.rules.first)?;
+    push_rule(&mut switches, own.drawn.rules.second)?;
+    let mut mishaps = copies(alloc, words.mishaps.as_slice())?;
+    if let Some(mishap) = own.mishap {
+        mishaps.push(mishap)?;
+    }
     Ok(Simulation {
-        seed: words.seed.wrapping_add(place),
+        seed: own.seed,
         events: words.events,
-        sizes: words.sizes,
-        rates: words.rates,
-        switches: copies(alloc, words.switches.as_slice())?,
-        switch_at: words.switch_at,
-        no_tail: words.no_tail,
-        mishaps: copies(alloc, words.mishaps.as_slice())?,
+        sizes: own.drawn.sizes,
+        rates: own.drawn.rates,
+        switches,
+        switch_at: own.drawn.switch_at,
+        no_tail: own.drawn.no_tail,
+        mishaps,
+        stop_anywhere: words.stop_anywhere,
         history: None,
-        labels: Some(labels),
+        labels: Some(own.labels),
         schedule: None,
         count: None,
+        swarm: false,
         progress: false,
-        folder,
+        folder: own.folder,
     })
+}
+
+fn push_rule(switches: &mut Vec<&str>, rule: Option<Switch>) -> Result<(), AllocError> {
+    if let Some(rule) = rule {
+        switches.push(rule.name())?;
+    }
+    Ok(())
 }
 
 fn copies<'a>(alloc: Global, words: &'a [&'a str]) -> Result<Vec<&'a str>, AllocError> {

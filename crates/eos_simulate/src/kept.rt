@@ -15,8 +15,8 @@ use eos_evidence::Evidence;
 use std::alloc::{AllocError, Global};
 
 /// What a cluster leaves that is driven by the words of a seed's script. With switches it breaks these rules, if not inside the
-/// script then afterwards, in a few further events each, if they are to be shown; without one its logs have no fault. A history that
-/// began with nothing in it has what was done.
+/// script then afterwards, in a few further events each, if they are to be shown; without one its logs have no fault, unless the run stops
+/// after the script, at rest or not. A history that began with nothing in it has what was done.
 pub fn simulate(
     alloc: Global,
     course: &Course,
@@ -24,12 +24,12 @@ pub fn simulate(
 ) -> Result<Evidence, SimulationFault>
     ensures kept { history.old ≡ [] → IfOk result (IsLeftBy course.now.config history.new) }
     ensures switched { OnOk result (HasBroken course.now.switches history.new) }
-    ensures schedule { any_on course.now.switches ≡ false → IfOk result IsOfSchedule }
-    ensures right { any_on course.now.switches ≡ false → IfOk result HasRightLogs }
-    ensures faultless { any_on course.now.switches ≡ false → IfOk result HasNoFaultInLogs }
+    ensures schedule { course.now.stops ≡ false → any_on course.now.switches ≡ false → IfOk result IsOfSchedule }
+    ensures right { course.now.stops ≡ false → any_on course.now.switches ≡ false → IfOk result HasRightLogs }
+    ensures faultless { course.now.stops ≡ false → any_on course.now.switches ≡ false → IfOk result HasNoFaultInLogs }
 {
     let cluster = broken(alloc, course, history)?;
-    let evidence = evidence_of(&cluster)?;
+    let evidence = evidence_of(&cluster, course.stops)?;
     Ok(evidence)
 }
 

@@ -7,7 +7,7 @@ ghost use Rattle.serde_json.specs.Written.{compact_text};
 ghost use Rattle.eos_text.specs.Adding.{Adds};
 ghost use Rattle.eos_machine.specs.LogIndexes.{IsConfig};
 ghost use Rattle.eos_drive.specs.Mishaps.{name_in};
-ghost use Rattle.eos_simulate.specs.LabelTexts.{rule_codes, mishap_codes, broken_text, network_text, utf8_or_empty, mishap_text, wrong_text, label_text, AreLabelsIf};
+ghost use Rattle.eos_simulate.specs.LabelTexts.{rule_codes, stop_codes, stop_text, mishap_codes, broken_text, network_text, utf8_or_empty, mishap_text, wrong_text, label_text, AreLabelsIf};
 
 use crate::labels::{Label, Taken, Wrong, labels_of};
 use crate::making::{SimulationFault, new_cluster};
@@ -25,14 +25,15 @@ pub(crate) fn labels_if(
     wanted: bool,
     config: Config,
     history: &History,
+    stops: bool,
 ) -> Result<Option<String>, SimulationFault>
-    ensures { IfOk result (λ text. AreLabelsIf wanted config history.now (option_map string_bytes text)) }
+    ensures { IfOk result (λ text. AreLabelsIf wanted config stops history.now (option_map string_bytes text)) }
 {
     if !wanted {
         return Ok(None);
     }
     let cluster = new_cluster(alloc, config)?;
-    let labels = labels_of(alloc, config, history.deeds())?;
+    let labels = labels_of(alloc, config, history.deeds(), stops)?;
     let text = text_of(alloc, &cluster, labels.as_slice())?;
     Ok(Some(text))
 }
@@ -62,7 +63,26 @@ fn push_line(
         Wrong::Lost(message) => push_network(out, "lost", number, *message),
         Wrong::Repeated(message) => push_network(out, "repeated", number, *message),
         Wrong::Erred(mishap) => push_mishap(alloc, out, number, mishap.as_slice()),
+        Wrong::Stopped => push_stopped(out, number),
     }
+}
+
+/// Adds the line of this number of a run that stops.
+fn push_stopped(out: &mut String, number: u64) -> Result<(), AllocError>
+    ensures { OnOk result (Adds (string_bytes out.old) (string_bytes out.new) (stop_text number)) }
+{
+    push_value(out, "{\"codes\":", &stop_codes())?;
+    push_value(out, ",\"label\":\"stopped\",\"number\":", &number)?;
+    push_text(out, "}\n")?;
+    Ok(())
+}
+
+/// The codes of the faults that may follow where a run stops.
+#[tactic(auto, unfolding(crate::specs::LabelTexts::stop_codes))]
+fn stop_codes() -> &'static str
+    ensures { result.now ≡ stop_codes }
+{
+    "[\"1.11\",\"2.5\",\"5.7\",\"5.11\"]"
 }
 
 /// The codes of the faults that may follow where this rule is broken.

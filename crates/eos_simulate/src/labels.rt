@@ -2,9 +2,8 @@
 
 ghost use Rattle.std.specs.Prelude.{◌≡◌, ◌∷◌, [], IfOk, OnOk};
 ghost use Rattle.eos_drive.specs.Driven.{after_deed};
-ghost use Rattle.eos_simulate.specs.Histories.{new_course};
-ghost use Rattle.eos_simulate.specs.steps.AddedLabels.{AddsLabels, is_left_out};
-ghost use Rattle.eos_simulate.specs.Labels.{broken_if, broken_labels, taken_at, answer_labels, event_labels, wrong_note, deed_labels, labels_from};
+ghost use Rattle.eos_simulate.specs.steps.AddedLabels.{AddsLabels, AddsStop, is_left_out};
+ghost use Rattle.eos_simulate.specs.Labels.{broken_if, broken_labels, taken_at, answer_labels, event_labels, wrong_note, deed_labels, AreLabelsOf};
 
 use crate::making::{SimulationFault, new_cluster};
 use bytes::Bytes;
@@ -35,6 +34,8 @@ pub enum Wrong {
     Repeated(u64),
     /// A transaction makes this mishap.
     Erred(Bytes),
+    /// The run stops here, and the cluster isn't at rest.
+    Stopped,
 }
 
 /// What was wrong, and the number of its line in the history.
@@ -45,14 +46,15 @@ pub struct Label {
 }
 
 /// The labels of what was done to a new cluster of these sizes, in order: each mishap, each message that was lost or repeated, and each
-/// rule that was broken where a message was taken, and no other.
-#[tactic(auto, using(crate::proofs::Labelled::labelled, crate::proofs::Labelled::all_labels))]
+/// rule that was broken where a message was taken; last, where the run stops there, that the cluster isn't at rest; and no other.
+#[tactic(auto, using(crate::proofs::Labelled::labelled, crate::proofs::Labelled::further, crate::proofs::Labelled::stopped))]
 pub fn labels_of(
     alloc: Global,
     config: Config,
     deeds: &[Deed],
+    stops: bool,
 ) -> Result<Vec<Label>, SimulationFault>
-    ensures { IfOk result (λ labels. labels.items ≡ labels_from 1 (new_course config) deeds.now) }
+    ensures { IfOk result (λ labels. AreLabelsOf stops config deeds.now labels.items) }
 {
     let mut cluster = new_cluster(alloc, config)?;
     let mut labels = Vec::new(alloc);
@@ -60,7 +62,25 @@ pub fn labels_of(
         push_deed(&mut labels, place as u64 + 1, &cluster, &deeds[place])?;
         follow(&mut cluster, &deeds[place])?;
     }
+    push_stop(&mut labels, deeds.len() as u64, &cluster, stops)?;
     Ok(labels)
+}
+
+/// Adds the label of a run that stops after so many deeds, where the cluster isn't at rest.
+#[tactic(auto, using(crate::proofs::Stopping::added_stop))]
+fn push_stop(
+    labels: &mut Vec<Label>,
+    number: u64,
+    cluster: &Cluster,
+    stops: bool,
+) -> Result<(), AllocError>
+    ensures { OnOk result (AddsStop stops cluster.now.world number labels.old.items labels.new.items) }
+{
+    if !stops || cluster.at_rest() {
+        return Ok(());
+    }
+    push_label(labels, number, Wrong::Stopped)?;
+    Ok(())
 }
 
 /// Does to a cluster what was done.

@@ -131,13 +131,13 @@ fn make_by_lines<D: DiskMut>(
     schedule: &Schedule,
     written: &mut Written,
 ) -> Result<Made, Unleft>
-    ensures run { IfOk result (λ made. IsOfLines schedule.now (wanted_by words.now) made.evidence (option_map string_bytes made.history, option_map string_bytes made.labels)) }
+    ensures run { IfOk result (λ made. IsOfLines schedule.now words.now.stop_anywhere (wanted_by words.now) made.evidence (option_map string_bytes made.history, option_map string_bytes made.labels)) }
     ensures folder { OnOk result (IsMade (D.holds disk.old) words.now.folder.now (D.holds disk.new)) }
 {
     if let Err(why) = begin_folder(alloc, disk, words.folder, written) {
         return Err(why);
     }
-    match by_lines(alloc, schedule, keeps_of(words)) {
+    match by_lines(alloc, schedule, keeps_of(words), words.stop_anywhere) {
         Ok(made) => Ok(made),
         Err(fault) => Err(Unleft::Unreplayed(fault, schedule.lines.len() as u64)),
     }

@@ -22,6 +22,7 @@ mod making;
 mod recipe;
 mod replaying;
 mod schedule_file;
+mod swarm;
 
 pub use course::Course;
 pub use evidence::evidence_of;
@@ -31,3 +32,4 @@ pub use labels::{Label, Taken, Wrong, labels_of};
 pub use leaving::{Unleft, Unsimulated, simulate_to};
 pub use making::{SimulationFault, told_to};
 pub use replaying::{ReplayFault, replay};
+pub use swarm::{Drawn, Rules, drawn_for};

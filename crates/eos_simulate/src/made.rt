@@ -38,11 +38,11 @@ pub(crate) fn by_script(
     course: &Course,
     keeps: WantedTexts,
 ) -> Result<Made, SimulationFault>
-    ensures { IfOk result (λ made. IsOfScript course.now.config course.now.switches (head_of course.now) keeps made.evidence (option_map string_bytes made.history, option_map string_bytes made.labels)) }
+    ensures { IfOk result (λ made. IsOfScript course.now.config course.now.switches course.now.stops (head_of course.now) keeps made.evidence (option_map string_bytes made.history, option_map string_bytes made.labels)) }
 {
     let mut history = History::new(alloc);
     let evidence = simulate(alloc, course, &mut history)?;
-    let labels = labels_if(alloc, keeps.labels, course.config, &history)?;
+    let labels = labels_if(alloc, keeps.labels, course.config, &history, course.stops)?;
     let history = text_if(alloc, keeps.history, &course.head(), &history)?;
     Ok(Made {
         evidence,
@@ -57,15 +57,16 @@ pub(crate) fn by_lines(
     alloc: Global,
     schedule: &Schedule,
     keeps: WantedTexts,
+    stops: bool,
 ) -> Result<Made, ReplayFault>
-    ensures { IfOk result (λ made. IsOfLines schedule.now keeps made.evidence (option_map string_bytes made.history, option_map string_bytes made.labels)) }
+    ensures { IfOk result (λ made. IsOfLines schedule.now stops keeps made.evidence (option_map string_bytes made.history, option_map string_bytes made.labels)) }
 {
     let mut history = History::new(alloc);
-    let evidence = match replay(alloc, schedule, &mut history) {
+    let evidence = match replay(alloc, schedule, &mut history, stops) {
         Ok(evidence) => evidence,
         Err(fault) => return Err(fault),
     };
-    let Ok(labels) = labels_if(alloc, keeps.labels, schedule.head.config, &history) else {
+    let Ok(labels) = labels_if(alloc, keeps.labels, schedule.head.config, &history, stops) else {
         return Err(ReplayFault::OutOfMemory);
     };
     match text_if(alloc, keeps.history, &schedule.head, &history) {

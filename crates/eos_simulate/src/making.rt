@@ -1,6 +1,6 @@
 //! What a simulated cluster leaves behind, and what is said of it.
 
-ghost use Rattle.std.specs.Prelude.{◌≡◌, true, Err, IfOk, OnErr, string_bytes};
+ghost use Rattle.std.specs.Prelude.{◌≡◌, true, false, Err, IfOk, OnErr, string_bytes};
 ghost use Rattle.std.specs.Io.KnownBytes.{Appends, Keeps};
 ghost use Rattle.eos_text.specs.Writing.{WritesFront};
 ghost use Rattle.eos_machine.specs.Evidences.{IsEvidenceOf};
@@ -68,15 +68,18 @@ pub(crate) fn none_unmet(unmet: Option<Mishap>) -> Result<(), SimulationFault> {
     }
 }
 
-/// The cluster's logs.
-pub(crate) fn evidence_of(cluster: &Cluster) -> Result<Evidence, SimulationFault>
+/// The cluster's logs: as they are where its run stops, else at rest.
+pub(crate) fn evidence_of(cluster: &Cluster, stops: bool) -> Result<Evidence, SimulationFault>
     ensures evidence { IfOk result (IsEvidenceOf cluster.now.config cluster.now.world) }
-    ensures schedule { cluster.now.honest ≡ true → IfOk result IsOfSchedule }
-    ensures right { cluster.now.honest ≡ true → IfOk result HasRightLogs }
-    ensures faultless { cluster.now.honest ≡ true → IfOk result HasNoFaultInLogs }
+    ensures schedule { stops ≡ false → cluster.now.honest ≡ true → IfOk result IsOfSchedule }
+    ensures right { stops ≡ false → cluster.now.honest ≡ true → IfOk result HasRightLogs }
+    ensures faultless { stops ≡ false → cluster.now.honest ≡ true → IfOk result HasNoFaultInLogs }
 {
     if !cluster.has_room() {
         return Err(SimulationFault::Limit);
+    }
+    if stops {
+        return Ok(cluster.evidence_anywhere()?);
     }
     match crate::evidence::evidence_of(cluster) {
         Ok(evidence) => Ok(evidence),

@@ -47,6 +47,7 @@ fn recipe(alloc: Global, words: &Simulation<'_>) -> Result<Vec<Value>, AllocErro
     push_number(alloc, &mut said, "--switch-at", words.switch_at)?;
     push_flag(alloc, &mut said, "--no-tail", words.no_tail)?;
     push_each(alloc, &mut said, "--mishap", words.mishaps.as_slice())?;
+    push_flag(alloc, &mut said, "--stop-anywhere", words.stop_anywhere)?;
     Ok(said)
 }
 

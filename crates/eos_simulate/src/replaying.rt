@@ -63,7 +63,7 @@ fn refused(fault: SimulationFault) -> ReplayFault
 }
 
 /// Does to a new cluster what the lines of a schedule say, one after the other, keeps that in a history, and gives the evidence
-/// that is left.
+/// that is left: at rest, or, where the run stops, at any time.
 ///
 /// # Errors
 /// The first line that is answered otherwise than it says, where it says it; totals that aren't those of the lines; `NotAtRest`; `Limit`;
@@ -73,6 +73,7 @@ pub fn replay(
     alloc: Global,
     schedule: &Schedule,
     history: &mut History,
+    stops: bool,
 ) -> Result<Evidence, ReplayFault>
     ensures kept { history.old ≡ [] → IfOk result (IsLeftBy schedule.now.head.config history.new) }
     ensures done { history.old ≡ [] → OnOk result (acts_of history.new ≡ acts_said schedule.now.lines) }
@@ -87,7 +88,7 @@ pub fn replay(
     if let Err(fault) = compare_totals(alloc, schedule.tail, history) {
         return Err(fault);
     }
-    match evidence_of(&cluster) {
+    match evidence_of(&cluster, stops) {
         Ok(evidence) => Ok(evidence),
         Err(fault) => Err(refused(fault)),
     }

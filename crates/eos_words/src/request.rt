@@ -117,15 +117,19 @@ pub struct Simulation<'a> {
     pub no_tail: bool,
     /// The words of the mistakes that the applications make.
     pub mishaps: Vec<&'a str>,
+    /// Whether the run ends after its last word, at rest or not.
+    pub stop_anywhere: bool,
     /// The file that is made of what happens, if one is wanted.
     pub history: Option<&'a str>,
     /// The file that is made of what was done wrong, if one is wanted.
     pub labels: Option<&'a str>,
-    /// The file of what is to happen, if it isn't a script. Then nothing else is said but a history, labels and the folder.
+    /// The file of what is to happen, if it isn't a script. Then nothing else is said but a history, labels, where it stops, and the folder.
     pub schedule: Option<&'a str>,
     /// How many folders are made in the folder, if several are wanted, of the seeds from this one on: from 1 to 999,999. Then no history,
     /// labels or schedule are said.
     pub count: Option<u64>,
+    /// Whether for each of several folders that is drawn which isn't said.
+    pub swarm: bool,
     /// Whether it is told how many are made.
     pub progress: bool,
     /// The folder that is made.

@@ -25,10 +25,12 @@ pub(crate) fn read_simulate<'a>(
         switch_at: inner.get_one::<u64>("switch-at"),
         no_tail: inner.get_flag("no-tail"),
         mishaps: read_all(alloc, inner, "mishap")?,
+        stop_anywhere: inner.get_flag("stop-anywhere"),
         history: inner.get_str("history"),
         labels: inner.get_str("labels"),
         schedule: inner.get_str("schedule"),
         count: inner.get_one::<u64>("count"),
+        swarm: inner.get_flag("swarm"),
         progress: inner.get_flag("progress"),
         folder,
     })))

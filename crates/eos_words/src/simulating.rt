@@ -35,12 +35,13 @@ const SCHEDULED: &[&str] = &[
     "switch-at",
     "no-tail",
     "mishap",
+    "swarm",
 ];
 
 /// What each of several folders has of its own, or can't have.
 const SINGLE: &[&str] = &["history", "labels", "schedule"];
 
-static SIMULATE_ARGUMENTS: [Argument; 26] = [
+static SIMULATE_ARGUMENTS: [Argument; 28] = [
     Argument {
         name: "seed",
         help: "What the script is drawn from, 0 to 2^64 - 1",
@@ -162,6 +163,12 @@ static SIMULATE_ARGUMENTS: [Argument; 26] = [
         form: Form::Repeated("NAME[@TOPIC-N:O]", ValueParser::NonEmptyString),
     },
     Argument {
+        name: "stop-anywhere",
+        help: "The run ends after its last word, at rest or not",
+        presence: Presence::Optional,
+        form: Form::Flag,
+    },
+    Argument {
         name: "history",
         help: "Writes all that happens to this new file, as JSON lines",
         presence: Presence::Optional,
@@ -184,6 +191,12 @@ static SIMULATE_ARGUMENTS: [Argument; 26] = [
         help: "So many folders in FOLDER, of the seeds from S on",
         presence: Presence::Without(SINGLE),
         form: Form::Valued("N", ValueParser::Unsigned(1, 999_999)),
+    },
+    Argument {
+        name: "swarm",
+        help: "With --count, draws for each seed what isn't said",
+        presence: Presence::Optional,
+        form: Form::Flag,
     },
     Argument {
         name: "progress",
@@ -266,12 +279,18 @@ the fault of a mishap stands at most the same, of its input's other output:
   offset-deleted     4.4 OffsetDeleted      its group's offset is deleted
   aborted-input      5.6 NoSuchInput        it was aborted, and is processed
 
+With --stop-anywhere the run ends after its last word: nothing is processed any
+more, and nothing restarts. FOLDER is what somebody copies from a cluster that
+goes on: transactions are open there, or decided and not yet ended, and `check`
+says no, by 1.11 OpenAtEnd or 2.5 Unfinished. A --switch then needs --switch-at.
+
 With --history all that happens is written to FILE, which must not be there, as
 JSON lines (docs/SIMULATOR.md): what the cluster is, each event with its reply,
 and the totals. --schedule runs the lines of such a file, so that they can be
 cut, edited and run again. It says what the other options would say but for
---history and --labels, so none of them goes with it; a reply may be left out,
-and one that comes out differently is told with its number (status 1).
+--history, --labels and --stop-anywhere, so none of them goes with it; a reply
+may be left out, and one that comes out differently is told with its number
+(status 1).
 
 With --labels what was done wrong is written to FILE, which must not be there:
 a JSON line for each mishap, each message that was lost or repeated, and each
@@ -283,7 +302,9 @@ and so on, of the seeds from S on. Each is as its own words would make it, with
 its labels beside it, as 000001.labels. When it is whole, a line of JSON on
 standard output tells its folder, its labels and the words that make it. A seed
 that leaves no evidence, as where the cluster never comes to rest, is told on
-standard error, and passed over.
+standard error, and passed over. With --swarm each seed draws what isn't said:
+sizes, rates, --chain, switches and when they are on, and a mishap. The words
+of its line have all that was drawn, and so make it without --swarm.
 
 It shows what a fault looks like and that the checker finds it, and says nothing
 of real brokers.
@@ -294,4 +315,5 @@ Examples:
   eoscheck simulate --seed 7 --events 200 --chain --mishap lost-output FOLDER
   eoscheck simulate --seed 7 --events 200 --history history.jsonl FOLDER
   eoscheck simulate --schedule history.jsonl FOLDER
-  eoscheck simulate --count 100 --seed 1 --events 200 FOLDER >index.jsonl";
+  eoscheck simulate --count 100 --seed 1 --events 200 FOLDER >index.jsonl
+  eoscheck simulate --count 100 --swarm --seed 1 --events 200 FOLDER >index";
