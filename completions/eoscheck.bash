@@ -6,7 +6,7 @@ _eoscheck() {
   [ "$before" = = ] && before=${COMP_WORDS[COMP_CWORD - 2]}
   COMPREPLY=()
   if [ "$COMP_CWORD" -eq 1 ]; then
-    mapfile -t COMPREPLY < <(compgen -W 'check dump chain explain draw init coordinator fold simulate help -h --help -V --version' -- "$word")
+    mapfile -t COMPREPLY < <(compgen -W 'check dump chain explain draw init coordinator fold simulate shrink help -h --help -V --version' -- "$word")
     return
   fi
   case ${COMP_WORDS[1]} in
@@ -191,6 +191,16 @@ _eoscheck() {
     esac
     case $word in
     -*) mapfile -t COMPREPLY < <(compgen -W '--seed --events --applications --inputs --outputs --transaction-logs --segment-records --batch-records --chain --lose --repeat --abandon --members --restart-broker --restart-coordinator --abort --switch --switch-at --no-tail --mishap --stop-anywhere --history --labels --schedule --count --swarm --progress -h --help' -- "$word") ;;
+    *) mapfile -t COMPREPLY < <(compgen -d -- "$word") ;;
+    esac ;;
+  shrink)
+    case $before in
+    --fault)
+      mapfile -t COMPREPLY < <(compgen -W '' -- "$word")
+      return ;;
+    esac
+    case $word in
+    -*) mapfile -t COMPREPLY < <(compgen -W '--fault -h --help' -- "$word") ;;
     *) mapfile -t COMPREPLY < <(compgen -d -- "$word") ;;
     esac ;;
   esac

@@ -8,6 +8,7 @@ complete -c eoscheck -n __fish_use_subcommand -f -a init -d 'Writes the manifest
 complete -c eoscheck -n __fish_use_subcommand -f -a coordinator -d 'Prints which partition of Kafka\'s own two topics a group or an id has'
 complete -c eoscheck -n __fish_use_subcommand -f -a fold -d 'Folds segments where they lie, so that `check` needs no copies of them'
 complete -c eoscheck -n __fish_use_subcommand -f -a simulate -d 'Writes a folder of logs as a simulated cluster leaves it, for `check`'
+complete -c eoscheck -n __fish_use_subcommand -f -a shrink -d 'Makes the history of a simulated cluster as small as its first fault lets it be'
 complete -c eoscheck -n __fish_use_subcommand -s h -l help -d 'Print help'
 complete -c eoscheck -n __fish_use_subcommand -s V -l version -d 'Print version'
 complete -c eoscheck -n '__fish_seen_subcommand_from check' -l workers -x -d 'How many threads work at most, 1 to 64, or 4; same answer'
@@ -79,3 +80,5 @@ complete -c eoscheck -n '__fish_seen_subcommand_from simulate' -l swarm -d 'With
 complete -c eoscheck -n '__fish_seen_subcommand_from simulate' -l progress -d 'With --count, tells on standard error how many are made'
 complete -c eoscheck -n '__fish_seen_subcommand_from simulate' -s h -l help -d 'Print help'
 complete -c eoscheck -n '__fish_seen_subcommand_from simulate' -f -a '(__fish_complete_directories)'
+complete -c eoscheck -n '__fish_seen_subcommand_from shrink' -l fault -x -d 'The code of the first fault that is kept, such as 5.10'
+complete -c eoscheck -n '__fish_seen_subcommand_from shrink' -s h -l help -d 'Print help'

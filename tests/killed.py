@@ -4,7 +4,7 @@ whole or not there.
 
     python3 -B tests/killed.py PROGRAM LIBRARY [COMMAND ..]
 
-LIBRARY is tests/killed.c, built. Of `draw`, `check --report`, `check --page`, `simulate --history`, `init` and `fold` a run that isn't
+LIBRARY is tests/killed.c, built. Of `draw`, `check --report`, `check --page`, `simulate --history`, `shrink`, `init` and `fold` a run that isn't
 killed says what the file holds. After one that was killed the file isn't there, or is that one; and the next run makes it, or is refused since it is there,
 and leaves nothing beside it. A file that was there before stays, as does the folder that is read.
 
@@ -24,6 +24,9 @@ import tempfile
 
 FOLDER = os.path.abspath("tests/evidence/row-yes-2")
 FAULTY = os.path.abspath("tests/stories/04-missing-marker")
+# A faulty history, which is made first.
+ROOM = tempfile.TemporaryDirectory()
+HISTORY = f"{ROOM.name}/history"
 THERE = "eoscheck: cannot write {}: it is there already\n"
 FAILURES = errno.EIO, errno.ENOSPC, errno.EDQUOT
 # The calls whose failure no run may pass over.
@@ -60,6 +63,7 @@ COMMANDS = {
     "check --page": Command(lambda file, _: ["check", "--workers", "1", "--quiet", "--page", file, FOLDER], 8),
     "check --page of faults": Command(lambda file, _: ["check", "--all", "--workers", "1", "--quiet", "--page", file, FAULTY], 8, status=1),
     "simulate --history": Command(lambda file, folder: ["simulate", "--seed", "7", "--events", "30", "--history", file, folder], 30),
+    "shrink": Command(lambda file, _: ["shrink", "--fault", "1.5", HISTORY, file], 8),
     "init": Command(lambda file, _: ["init", "--ends-from-logs", "--app", "g:in:out", os.path.dirname(file)], 4, "evidence.json", copy_logs),
     "fold": Command(fold_words, 4, "in-0/00000000000000000000.fold", make_folder),
 }
@@ -165,6 +169,8 @@ class Tests:
 
 def main():
     tests = Tests(*map(os.path.abspath, sys.argv[1:3]))
+    script = ["simulate", "--seed", "7", "--events", "30", "--switch", "no-fence", "--history", HISTORY, f"{ROOM.name}/folder"]
+    subprocess.run([os.path.abspath(sys.argv[1]), *script], stdout=subprocess.DEVNULL, timeout=60, check=True)
     for name, command in COMMANDS.items():
         if name in (sys.argv[3:] or COMMANDS):
             tests.of(name, command)

@@ -58,6 +58,7 @@ def commands(room):
         (["coordinator", "billing"], None),
         (["simulate", "--seed", "7", "--events", "60", "--history", f"{room}/history", f"{room}/simulated"], f"{room}/simulated/evidence.json"),
         (["simulate", "--schedule", f"{room}/history.kept", f"{room}/again"], f"{room}/again/evidence.json"),
+        (["shrink", "--fault", "1.5", f"{room}/faulty.kept", f"{room}/small"], f"{room}/small"),
         (["fold", "--manifest", f"{GOOD}/evidence.json", "--out", folds, *partitions()], f"{folds}/{os.path.basename(partitions()[0])}"),
         (["fold", "--verify", f"{room}/folded", GOOD], None),
         (["init", "--app", "billing:orders:payments", "--ends-from-logs", f"{room}/copied"], f"{room}/copied/evidence.json"),
@@ -141,6 +142,7 @@ def prepare(program, room):
     """A history, and a folder of folds, as the commands want them, by the system's own stack."""
     for words in (
         ["simulate", "--seed", "7", "--events", "60", "--history", f"{room}/history.kept", f"{room}/kept"],
+        ["simulate", "--seed", "7", "--events", "60", "--switch", "no-fence", "--history", f"{room}/faulty.kept", f"{room}/faulty"],
         ["fold", "--manifest", f"{GOOD}/evidence.json", "--out", f"{room}/folded", *partitions()],
     ):
         subprocess.run([program, *words], stdin=subprocess.DEVNULL, capture_output=True, timeout=300, check=True)

@@ -20,6 +20,9 @@ counted 'simulated folders' python3 -B tests/simulate.py "$program" "$scratch/re
 # their histories, and schedules that are run again
 counted 'histories' python3 -B tests/histories.py "$program" "$scratch/refuse.so"
 
+# histories that are made small
+counted 'small histories' python3 -B tests/shrink.py "$program" "$scratch/refuse.so"
+
 # what was done wrong, as the simulator says it, against what `check` finds
 counted 'labels' python3 -B tests/labels.py "$program" "$scratch/refuse.so"
 

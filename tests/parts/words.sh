@@ -53,7 +53,7 @@ same 'chain of an absent file' 2 "$scratch/nothing" "$scratch/message"
 unread "$scratch" 'a folder'
 run dump "$scratch"
 same 'dump of a folder' 2 "$scratch/nothing" "$scratch/message"
-for words in 'dump' 'dump a b' 'check' 'check --workers 0 x' 'check --workers 65 x' 'check --workers x x' 'check --quiet' 'check --progress' 'check --strict' 'check --expect inputs=1' 'check --expect inputs x' 'check --force x' 'dump --strict x' 'explain --expect inputs=1 x' 'dump --quiet x' 'fold' 'fold x' 'fold --manifest x' 'fold --verify x' 'fold --verify x --manifest y z' 'fold --verify x --out y z' 'simulate x' 'simulate --seed 7 --events 1000001 x' '--no-such-word' 'dump --no-such-word x'; do
+for words in 'dump' 'dump a b' 'check' 'check --workers 0 x' 'check --workers 65 x' 'check --workers x x' 'check --quiet' 'check --progress' 'check --strict' 'check --expect inputs=1' 'check --expect inputs x' 'check --force x' 'dump --strict x' 'explain --expect inputs=1 x' 'dump --quiet x' 'fold' 'fold x' 'fold --manifest x' 'fold --verify x' 'fold --verify x --manifest y z' 'fold --verify x --out y z' 'simulate x' 'simulate --seed 7 --events 1000001 x' 'shrink x y' 'shrink --fault 1.5 x' '--no-such-word' 'dump --no-such-word x'; do
   # shellcheck disable=SC2086
   run $words
   if [ "$status" = 2 ] && [ ! -s "$scratch/out" ] && [ -s "$scratch/err" ]; then ok; else bad "bad words: $words"; fi
@@ -70,7 +70,7 @@ run $'\xff'
 same 'a word that is no text' 2 "$scratch/nothing" "$scratch/message"
 run dump $'caf\xe9.log'
 same 'a file whose name is no text' 2 "$scratch/nothing" "$scratch/message"
-for words in '--help' 'check --help' 'dump --help' 'chain --help' 'explain --help' 'draw --help' 'init --help' 'coordinator --help' 'fold --help' 'simulate --help' '--version'; do
+for words in '--help' 'check --help' 'dump --help' 'chain --help' 'explain --help' 'draw --help' 'init --help' 'coordinator --help' 'fold --help' 'simulate --help' 'shrink --help' '--version'; do
   # shellcheck disable=SC2086
   run $words
   if [ "$status" = 0 ] && [ -s "$scratch/out" ] && [ ! -s "$scratch/err" ]; then ok; else bad "help: $words"; fi
@@ -85,7 +85,7 @@ same 'dump to a full device' 2 "$scratch/nothing" "$scratch/message"
 "$program" chain "$segments/rdkafka-txn-1.log" > /dev/full 2> "$scratch/err"
 status=$?
 same 'chain to a full device' 2 "$scratch/nothing" "$scratch/message"
-for words in '--help' 'check --help' 'dump --help' 'chain --help' 'explain --help' 'draw --help' 'init --help' 'coordinator --help' 'fold --help' 'simulate --help' '--version'; do
+for words in '--help' 'check --help' 'dump --help' 'chain --help' 'explain --help' 'draw --help' 'init --help' 'coordinator --help' 'fold --help' 'simulate --help' 'shrink --help' '--version'; do
   # shellcheck disable=SC2086
   "$program" $words > /dev/full 2> "$scratch/err"
   status=$?

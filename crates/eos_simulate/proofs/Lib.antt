@@ -26,3 +26,5 @@ mod LeftFolders
 mod MadeRuns
 mod ScheduleTexts
 mod HistoryLines
+mod ShrunkParts
+mod ShrunkFiles

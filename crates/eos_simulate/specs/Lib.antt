@@ -10,3 +10,5 @@ pub mod Folders
 pub mod steps
 pub mod Schedules
 pub mod Leaving
+pub mod Parts
+pub mod Shrinking

@@ -2,3 +2,5 @@
 pub mod Heads
 pub mod Passing
 pub mod AddedLabels
+pub mod Judging
+pub mod AddedLines

@@ -53,7 +53,7 @@ pub(crate) fn end_unleft(rt: &HostRuntime, words: &Simulation<'_>, why: Unleft) 
 }
 
 /// Says which line of a schedule is refused, and why.
-fn end_refused(rt: &HostRuntime, path: &str, fault: ScheduleFault) -> u8 {
+pub(crate) fn end_refused(rt: &HostRuntime, path: &str, fault: ScheduleFault) -> u8 {
     if matches!(fault.fault, LineFault::OutOfMemory) {
         return end(rt, Ending::OutOfMemory);
     }
@@ -62,7 +62,7 @@ fn end_refused(rt: &HostRuntime, path: &str, fault: ScheduleFault) -> u8 {
 }
 
 /// Says why a schedule, which has so many lines of what is done, leaves no evidence.
-fn end_unreplayed(rt: &HostRuntime, path: &str, lines: u64, fault: ReplayFault) -> u8 {
+pub(crate) fn end_unreplayed(rt: &HostRuntime, path: &str, lines: u64, fault: ReplayFault) -> u8 {
     match fault {
         ReplayFault::NotAtRest => end(rt, Ending::NotAtRest),
         ReplayFault::Limit => end(rt, Ending::Limit(&Cause::Unknown)),

@@ -86,7 +86,7 @@ pub(crate) fn noted_of(note: &Note) -> Result<eos_drive::Note, AllocError>
     }
 }
 
-fn copy(bytes: &Bytes) -> Result<Bytes, AllocError>
+pub(crate) fn copy(bytes: &Bytes) -> Result<Bytes, AllocError>
     ensures { IfOk result (λ copied. copied ≡ bytes.now) }
 {
     bytes.clone()

@@ -6,12 +6,14 @@
 #![tactic(auto)]
 
 mod course;
+mod cutting;
 mod evidence;
 pub mod evidence_laws;
 mod folder;
 pub mod folder_laws;
 mod folders;
 mod history_file;
+mod inputs;
 mod kept;
 mod label_lines;
 mod labels;
@@ -19,9 +21,14 @@ pub mod laws;
 mod leaving;
 mod made;
 mod making;
+mod names;
 mod recipe;
 mod replaying;
 mod schedule_file;
+mod shrink_command;
+mod shrinking;
+mod shrunk_file;
+mod side;
 mod swarm;
 
 pub use course::Course;
@@ -32,4 +39,7 @@ pub use labels::{Label, Taken, Wrong, labels_of};
 pub use leaving::{Unleft, Unsimulated, simulate_to};
 pub use making::{SimulationFault, told_to};
 pub use replaying::{ReplayFault, replay};
+pub use shrink_command::shrink_history;
+pub use shrinking::{ShrinkFault, Shrunk, shrink};
+pub use shrunk_file::{Unshrunk, shrink_file};
 pub use swarm::{Drawn, Rules, drawn_for};

@@ -8,6 +8,7 @@ use crate::request::{
     Answer, Check, Coordinator, Draw, Explain, Fold, Init, Listing, NoRequest, Request, Verify,
 };
 use crate::scripted::read_simulate;
+use crate::shrinking::read_shrink;
 use crate::subcommands::Subcommand;
 use clap::builder::ValueParser;
 use clap::error::{Error, ErrorKind};
@@ -116,6 +117,7 @@ fn make_subcommands<'a>(alloc: Global, details: &'a str) -> Result<Vec<Command<'
         Subcommand::Coordinator,
         Subcommand::Fold,
         Subcommand::Simulate,
+        Subcommand::Shrink,
     ] {
         made.push(make_subcommand(alloc, it, details)?)?;
     }
@@ -192,6 +194,7 @@ fn read_request<'a>(
         "coordinator" => read_coordinator(alloc, inner),
         "fold" => read_fold(alloc, inner),
         "simulate" => read_simulate(alloc, inner),
+        "shrink" => read_shrink(alloc, inner),
         _ => Ok(None),
     }
 }

@@ -10,12 +10,13 @@ mod help;
 mod naming;
 mod request;
 mod scripted;
+mod shrinking;
 mod simulating;
 mod subcommands;
 
 pub use command::{VERSION, read_words};
 pub use demands::Demands;
 pub use request::{
-    Answer, Check, Coordinator, Draw, Explain, Fold, Init, Listing, NoRequest, Request, Simulation,
-    Sizes, Thousandths,
+    Answer, Check, Coordinator, Draw, Explain, Fold, Init, Listing, NoRequest, Request, Shrink,
+    Simulation, Sizes, Thousandths,
 };

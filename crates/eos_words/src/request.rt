@@ -18,6 +18,8 @@ pub enum Request<'a> {
     Story(Explain<'a>),
     /// Write what a simulated cluster leaves.
     Simulate(Simulation<'a>),
+    /// Make the history of a simulated cluster small.
+    Shrink(Shrink<'a>),
     /// Write the manifest of a folder of copied logs.
     Init(Init<'a>),
     /// Write the folds of segments.
@@ -165,6 +167,17 @@ pub struct Thousandths {
     pub restart_broker: Option<u64>,
     pub restart_coordinator: Option<u64>,
     pub abort: Option<u64>,
+}
+
+/// Which history is made small.
+#[derive(Clone, Copy)]
+pub struct Shrink<'a> {
+    /// The file of a history or a schedule.
+    pub history: &'a str,
+    /// The code of the fault that it gives first, or another word.
+    pub code: &'a str,
+    /// The file that is made.
+    pub file: &'a str,
 }
 
 /// Of which folder a manifest is made, and by what.

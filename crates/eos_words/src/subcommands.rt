@@ -11,6 +11,7 @@ use crate::help::{
     INIT_WRITES,
 };
 use crate::naming::coordinator_arguments;
+use crate::shrinking::{SHRINK, SHRINK_WRITES, shrink_arguments};
 use crate::simulating::{SIMULATE, SIMULATE_WRITES, simulate_arguments};
 
 /// A subcommand.
@@ -25,6 +26,7 @@ pub(crate) enum Subcommand {
     Coordinator,
     Fold,
     Simulate,
+    Shrink,
 }
 
 impl Subcommand {
@@ -39,6 +41,7 @@ impl Subcommand {
             Subcommand::Coordinator => "coordinator",
             Subcommand::Fold => "fold",
             Subcommand::Simulate => "simulate",
+            Subcommand::Shrink => "shrink",
         }
     }
 
@@ -54,6 +57,7 @@ impl Subcommand {
             Subcommand::Coordinator => COORDINATOR,
             Subcommand::Fold => FOLD,
             Subcommand::Simulate => SIMULATE,
+            Subcommand::Shrink => SHRINK,
         }
     }
 
@@ -78,6 +82,7 @@ impl Subcommand {
             Subcommand::Coordinator => Some(COORDINATOR_PRINTS),
             Subcommand::Fold => Some(FOLD_WRITES),
             Subcommand::Simulate => Some(SIMULATE_WRITES),
+            Subcommand::Shrink => Some(SHRINK_WRITES),
         }
     }
 
@@ -93,6 +98,7 @@ impl Subcommand {
             Subcommand::Coordinator => coordinator_arguments(),
             Subcommand::Fold => fold_arguments(),
             Subcommand::Simulate => simulate_arguments(),
+            Subcommand::Shrink => shrink_arguments(),
         }
     }
 }
