@@ -19,11 +19,10 @@ use Rattle.eos_report.specs.declared.dates.Timestamps.{Timestamps}
 use Rattle.eos_report.specs.Reports.{IsReportText}
 use Rattle.eos_source.specs.Said.{Known}
 use Rattle.eos_source.specs.Saying.{known_at}
-use Rattle.eos_source_check.specs.Times.{AreTimesNamed}
 use Rattle.eos_checking.specs.Checking.{IsMadeIf}
 use Rattle.eos_checking.specs.declared.check.Made.{Made}
 use Rattle.eos_checking.specs.declared.check.Wanted.{Wanted}
-use Rattle.eos_checking.specs.Dates.{time_at, IsTimeOf, AreTimesOfFault, AreTimesOfFaults, AreReadIf, AreDates, IsTextWith, IsDatedText, HasReport, IsDated, IsDatedIn}
+use Rattle.eos_checking.specs.Dates.{AreTimesOfFault, AreTimesOfFaults, AreReadIf, AreDates, IsTextWith, IsDatedText, HasReport, IsDated, IsDatedIn}
 use Rattle.eos_checking.specs.steps.Tellings.{HasDates}
 
 -- ---- fault by fault
@@ -47,18 +46,7 @@ pub faults_all : (known : ℕ → Known) (partitions : List Partition) (faults :
     → AreTimesOfFaults known partitions faults times
 faults_all known partitions faults i times le h = subst (λ (fs : List Fault). AreTimesOfFaults known partitions fs times) (take_all i faults le) h
 
--- ---- of one record, and read or not
-
-pub time_is : (known : ℕ → Known) (partitions : List Partition) (place : Place) (name : PartitionName) (offsets : List ℕ) (times : List (ℕ × ℤ)) (time : Option ℤ) → name ≡ place.partition → offsets ≡ place.offset ∷ []
-    → AreTimesNamed known 0 partitions name offsets times → time ≡ time_at place.offset times → IsTimeOf known partitions place time
-time_is known partitions place name offsets times time named alone are is =
-    record {
-      offsets = offsets;
-      among = subst (λ (os : List ℕ). Contains os place.offset) (sym alone) (0, omega arith, refl);
-      times = times;
-      are = subst (λ (n : PartitionName). AreTimesNamed known 0 partitions n offsets times) named are;
-      is = is;
-    }
+-- ---- read or not
 
 pub are_read : (known : ℕ → Known) (partitions : List Partition) (faults : List Fault) (dates : Dates) (times : List Timestamps) → dates.read ≡ true → dates.of_faults ≡ times
     → AreTimesOfFaults known partitions faults times → AreDates known partitions faults dates

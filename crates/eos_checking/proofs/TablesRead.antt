@@ -1,15 +1,15 @@
 -- What is looked up of times that were read together.
-use Rattle.std.proofs.Common.{◌≡◌, ◌<◌, ℕ, ℤ, ◌+◌, ◌==◌, List, [], ◌∷◌, length, drop, get_or, Option, Some, option_map, Result, Ok, Err, IfOk, is_ok, Bool, true, false, nat_lt, cond, if◌then◌else◌, refl, sym, ap, subst, ◌∙◌, arith}
+use Rattle.std.proofs.Common.{◌≡◌, ◌<◌, ℕ, ℤ, ◌+◌, ◌==◌, List, [], ◌∷◌, ◌++◌, length, drop, get_or, Option, Some, option_map, Result, Ok, Err, IfOk, is_ok, Bool, true, false, nat_lt, cond, if◌then◌else◌, refl, sym, ap, subst, ◌∙◌, arith}
 use Rattle.std.specs.BTreeMap.{BTreeMap, get}
 use Rattle.std.specs.List.{All, Contains, HoldsAt}
-use Rattle.std.specs.List.Sorted.{IsNonDecreasing, IsSearchInRange, IsSorted}
+use Rattle.std.specs.List.Sorted.{IsPermutation, IsSearchInRange}
 use Rattle.std.specs.Ordering.{nat_cmp, int_cmp, is_eq, ordering_then}
 use Rattle.std.specs.Cmp.Lexicographic.{slice_cmp}
 use Rattle.std.specs.declared.cmp.Ordering.TheVariants.{Less, Equal, Greater}
 use Rattle.std.proofs.lemmas.Bool.{ltb-true, eqb-true}
 use Rattle.std.proofs.lemmas.List.{drop_more}
 use Rattle.std.proofs.lemmas.List.Elements.{All-contains}
-use Rattle.std.proofs.lemmas.List.Sorted.{IsNonDecreasingBy-from_sort}
+use Rattle.std.proofs.lemmas.List.Sorted.{Contains-permutation}
 use Rattle.eos_base.proofs.Exact.{nat_exact}
 use Rattle.eos_base.proofs.NamesInOrder.{name_exact}
 use Rattle.eos_claims.specs.Plain.{plain_source}
@@ -18,7 +18,7 @@ use Rattle.eos_claims.specs.declared.place.Place.{Place}
 use Rattle.eos_evidence.specs.declared.partition.Partition.{Partition}
 use Rattle.eos_base.specs.declared.partition_name.PartitionName.{PartitionName}
 use Rattle.eos_source.specs.Said.{Known}
-use Rattle.eos_source_check.specs.Times.{AreTimesNamed, first_at}
+use Rattle.eos_source_check.specs.Times.{AreTimesNamed, AreTimesEach, first_at}
 use Rattle.eos_checking.specs.Dates.{time_at, IsTimeOf}
 use Rattle.eos_checking.specs.declared.tables.Moment.{Moment}
 use Rattle.eos_checking.specs.declared.tables.Table.{Table}
@@ -67,21 +67,27 @@ pub found : (offsets : List ℕ) (offset : ℕ) (r : Result ℕ ℕ) → IsSearc
 found offsets offset (Ok i) bound at so = among offsets offset i bound at
 found offsets offset (Err i) bound at so = absurd cc
 
-pub rising : (offsets : List ℕ) → IsSorted nat_cmp offsets → IsNonDecreasing offsets
-rising offsets sorted = IsNonDecreasingBy-from_sort (λ (x : ℕ). x) offsets sorted
-
 pub same_name : (name : PartitionName) (place : SourceRef) → ordering_then (slice_cmp nat_cmp name.topic place.topic.now) (int_cmp name.partition place.partition) ≡ Equal → name ≡ (plain_source place).partition
 same_name name place e = name_exact name (plain_source place).partition e
 
-pub told : (known : ℕ → Known) (partitions : List Partition) (tables : List Table) (table : Table) (place : Place) (time : Option ℤ) → All (IsTable known partitions) tables → Contains tables table
-    → table.name ≡ place.partition → Contains table.offsets place.offset → time ≡ option_map (λ (x : Moment). x.time) (get nat_cmp table.times place.offset) → IsTimeOf known partitions place time
-told known partitions tables table place time all here named among is =
-    let t = All-contains (IsTable known partitions) tables table all here in
-    let o = t.are.each place.offset among in
+pub alone : (offset : ℕ) (none made offsets : List ℕ) → none ≡ [] → made ≡ none ++ offset ∷ [] → IsPermutation made offsets → Contains offsets offset
+alone offset none made offsets empty pushed moved =
+    Contains-permutation made offsets offset moved (subst (λ (os : List ℕ). Contains os offset) (sym (pushed ∙ ap (λ (os : List ℕ). os ++ offset ∷ []) empty)) (0, omega arith, refl))
+
+pub time_is : (known : ℕ → Known) (partitions : List Partition) (place : Place) (name : PartitionName) (offsets : List ℕ) (times : List (ℕ × ℤ)) (time : Option ℤ) → name ≡ place.partition → Contains offsets place.offset
+    → AreTimesEach known partitions name offsets times → time ≡ time_at place.offset times → IsTimeOf known partitions place time
+time_is known partitions place name offsets times time named among are is =
+    let o = are.each place.offset among in
     record {
       offsets = place.offset ∷ [];
       among = (0, omega arith, refl);
       times = o.alone;
       are = subst (λ (n : PartitionName). AreTimesNamed known 0 partitions n (place.offset ∷ []) o.alone) named o.are;
-      is = is ∙ (t.index place.offset ∙ (sym (same_first place.offset t.times) ∙ (o.same ∙ same_first place.offset o.alone)));
+      is = is ∙ (sym (same_first place.offset times) ∙ (o.same ∙ same_first place.offset o.alone));
     }
+
+pub told : (known : ℕ → Known) (partitions : List Partition) (tables : List Table) (table : Table) (place : Place) (time : Option ℤ) → All (IsTable known partitions) tables → Contains tables table
+    → table.name ≡ place.partition → Contains table.offsets place.offset → time ≡ option_map (λ (x : Moment). x.time) (get nat_cmp table.times place.offset) → IsTimeOf known partitions place time
+told known partitions tables table place time all here named among is =
+    let t = All-contains (IsTable known partitions) tables table all here in
+    time_is known partitions place table.name table.offsets t.times time named among t.are (is ∙ t.index place.offset)

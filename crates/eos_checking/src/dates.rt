@@ -1,8 +1,8 @@
 //! When the records were written that the faults of a report name. Of what is kept of a log no times are left, so the segments in which
 //! they lie are read a second time.
 
-ghost use Rattle.std.specs.Prelude.{◌≡◌, ◌∷◌, [], false, IfOk, option_map};
-ghost use Rattle.std.specs.List.{All};
+ghost use Rattle.std.specs.Prelude.{◌≡◌, [], false, IfOk, option_map};
+ghost use Rattle.std.specs.List.{All, Contains};
 ghost use Rattle.eos_claims.specs.Plain.{plain_source};
 ghost use Rattle.eos_source.specs.Said.{known_by};
 ghost use Rattle.eos_checking.specs.Dates.{record_of, claim_of, time_at, IsTimeOf, IsTimeIf, AreTimesOfFault, AreTimesOfFaults, AreDates};
@@ -12,15 +12,14 @@ use crate::check::Wanted;
 use crate::source::Pieces;
 use crate::tables::{Table, tables_of, time_told};
 use bytes::Bytes;
-use eos_base::{Listed, PartitionName};
+use eos_base::{Listed, PartitionName, Sorted};
 use eos_check::Fault;
 use eos_claims::{Place, SourceRef};
 use eos_report::{Dates, Timestamps};
 use eos_source::Source;
-use eos_source_check::{Unlisted, times_named};
+use eos_source_check::{Unlisted, times_each};
 use eos_verdict::LineageFault;
 use std::alloc::{AllocError, Global};
-use std::slice;
 
 /// The same place, with its name lent.
 fn lent(place: &Place) -> SourceRef<'_>
@@ -96,14 +95,17 @@ pub(crate) fn name_of(alloc: Global, place: SourceRef<'_>) -> Result<PartitionNa
     })
 }
 
-fn alone(offset: &u64) -> &[u64]
-    ensures { result.now ≡ offset.now ∷ [] }
+#[tactic(auto, using(crate::proofs::TablesRead::alone))]
+fn alone(alloc: Global, offset: u64) -> Result<Sorted<u64>, AllocError>
+    ensures { IfOk result (λ offsets. Contains offsets offset) }
 {
-    slice::from_ref(offset)
+    let mut offsets = Vec::new(alloc);
+    offsets.push(offset)?;
+    Ok(Sorted::of(offsets))
 }
 
 /// When the record at a place was written, by a walk for it alone.
-#[tactic(auto, using(crate::proofs::Dated::time_is))]
+#[tactic(auto, using(crate::proofs::TablesRead::time_is))]
 fn time_alone<S: Source>(
     alloc: Global,
     pieces: &Pieces<'_, S>,
@@ -112,8 +114,8 @@ fn time_alone<S: Source>(
     ensures { IfOk result (IsTimeOf (known_by (S.said pieces.now.source.now) (S.is_log pieces.now.source.now)) pieces.now.shape.now.partitions (plain_source place.entry)) }
 {
     let name = name_of(alloc, place)?;
-    let offsets = alone(&place.offset);
-    let times = times_named(alloc, pieces.source, pieces.shape, &name, offsets)?;
+    let offsets = alone(alloc, place.offset)?;
+    let times = times_each(alloc, pieces.source, pieces.shape, &name, &offsets)?;
     Ok(time_at(times.as_slice(), place.offset))
 }
 

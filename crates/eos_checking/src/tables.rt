@@ -2,7 +2,6 @@
 
 ghost use Rattle.std.specs.Prelude.{◌≡◌, ◌<◌, ◌≤◌, ◌∷◌, ℕ, ℤ, List, true, length, option_map, IfOk, OnOk, IfSome};
 ghost use Rattle.std.specs.List.{All, Contains};
-ghost use Rattle.std.specs.List.Sorted.{IsNonDecreasing};
 ghost use Rattle.std.specs.BTreeMap.{get};
 ghost use Rattle.std.specs.Ordering.{nat_cmp};
 ghost use Rattle.std.specs.declared.cmp.Ordering.TheVariants.{Equal};
@@ -14,7 +13,7 @@ ghost use Rattle.eos_checking.specs.steps.Tables.{IsIndex, IsTable};
 
 use crate::dates::{claim_of, name_of, record_of};
 use crate::source::Pieces;
-use eos_base::{Listed, PartitionName, distinct_in_order, in_order};
+use eos_base::{PartitionName, Sorted, distinct_in_order};
 use eos_check::Fault;
 use eos_claims::SourceRef;
 use eos_source::Source;
@@ -33,7 +32,7 @@ struct Moment {
 #[derive(Drop)]
 pub(crate) struct Table {
     name: PartitionName,
-    offsets: Listed<u64>,
+    offsets: Sorted<u64>,
     times: BTreeMap<u64, Moment>,
 }
 
@@ -68,21 +67,13 @@ fn end_of_name(places: &[SourceRef<'_>], begin: usize) -> usize
     end
 }
 
-fn rising(offsets: Vec<u64>) -> Vec<u64>
-    ensures { IsNonDecreasing result.items }
-{
-    in_order(offsets)
-}
-
 /// The offsets of these places, in order.
-fn offsets_of(alloc: Global, places: &[SourceRef<'_>]) -> Result<Vec<u64>, AllocError>
-    ensures { IfOk result (λ offsets. IsNonDecreasing offsets.items) }
-{
+fn offsets_of(alloc: Global, places: &[SourceRef<'_>]) -> Result<Sorted<u64>, AllocError> {
     let mut offsets = Vec::new(alloc);
     for place in places {
         offsets.push(place.offset)?;
     }
-    Ok(rising(offsets))
+    Ok(Sorted::of(offsets))
 }
 
 fn moment_of(time: &(u64, i64)) -> Moment
@@ -121,17 +112,11 @@ fn table_of<S: Source>(
 {
     let name = name_of(alloc, places[0])?;
     let offsets = offsets_of(alloc, places)?;
-    let times = times_each(
-        alloc,
-        pieces.source,
-        pieces.shape,
-        &name,
-        offsets.as_slice(),
-    )?;
+    let times = times_each(alloc, pieces.source, pieces.shape, &name, &offsets)?;
     let times = index_of(alloc, times.as_slice())?;
     Ok(Table {
         name,
-        offsets: Listed::new(offsets),
+        offsets,
         times,
     })
 }

@@ -1,11 +1,11 @@
--- When the records of a picture's marks were written: of each row the times at the offsets of its marks, as its partition's segments say
--- them where they are read again.
+-- When the records of a picture's marks were written: of each row the time at the offset of each of its marks, as its partition's segments
+-- say it where they are read again.
 use Rattle.std.specs.Prelude.{◌≡◌, ⊤, ℕ, List, [], ◌∷◌, ◌++◌, Option, None, Some}
 use Rattle.eos_evidence.specs.declared.partition.Partition.{Partition}
 use Rattle.eos_picture.specs.declared.mark.Mark.{Mark}
 use Rattle.eos_picture.specs.declared.mark.Row.{Row}
 use Rattle.eos_source.specs.Said.{Known}
-use Rattle.eos_source_check.specs.Times.{AreTimesNamed}
+use Rattle.eos_source_check.specs.Times.{AreTimesEach}
 use Rattle.eos_picture.specs.declared.times.Times.{Times}
 use Rattle.eos_picture.specs.Titles.{mark_offset}
 
@@ -23,4 +23,4 @@ abbrev pub AreTimesOfRows : (ℕ → Known) → List Partition → List Row → 
 AreTimesOfRows known partitions [] [] = ⊤
 AreTimesOfRows known partitions [] (t ∷ ts) = ⊥
 AreTimesOfRows known partitions (row ∷ rows) [] = ⊥
-AreTimesOfRows known partitions (row ∷ rows) (t ∷ ts) = AreTimesNamed known 0 partitions row.name (offsets_of row.marks.items) t.at × AreTimesOfRows known partitions rows ts
+AreTimesOfRows known partitions (row ∷ rows) (t ∷ ts) = AreTimesEach known partitions row.name (offsets_of row.marks.items) t.at × AreTimesOfRows known partitions rows ts

@@ -4,15 +4,15 @@ ghost use Rattle.std.specs.Prelude.{◌≡◌, ◌++◌, IfOk, IfErr, OnOk};
 ghost use Rattle.eos_source.specs.FirstRefusals.{pieces_of};
 ghost use Rattle.eos_source.specs.Said.{known_by};
 ghost use Rattle.eos_source_check.specs.Refusals.{IsRefusedAgain};
-ghost use Rattle.eos_source_check.specs.Times.{AreTimesNamed};
+ghost use Rattle.eos_source_check.specs.Times.{AreTimesEach};
 ghost use Rattle.eos_picture.specs.Titles.{mark_offset};
 ghost use Rattle.eos_drawing.specs.Whens.{listed, offsets_of, AreTimesOfRows};
 
-use eos_base::Listed;
+use eos_base::{Listed, Sorted};
 use eos_evidence::Evidence;
 use eos_picture::{Mark, Row, Times, offset_of};
 use eos_source::Source;
-use eos_source_check::{Unlisted, times_named};
+use eos_source_check::{Unlisted, times_each};
 use std::alloc::{AllocError, Global};
 
 fn push_offset(offsets: &mut Vec<u64>, mark: &Mark) -> Result<(), AllocError>
@@ -40,11 +40,12 @@ fn times_of_row<S: Source>(
     shape: &Evidence,
     row: &Row,
 ) -> Result<Times, Unlisted<S::Fault>>
-    ensures times { IfOk result (λ times. AreTimesNamed (known_by (S.said source.now) (S.is_log source.now)) 0 shape.now.partitions row.now.name (offsets_of row.now.marks.items) times.at) }
+    ensures times { IfOk result (λ times. AreTimesEach (known_by (S.said source.now) (S.is_log source.now)) shape.now.partitions row.now.name (offsets_of row.now.marks.items) times.at) }
     ensures refused { IfErr result (IsRefusedAgain (S.outcomes source.now) (pieces_of shape.now)) }
 {
-    let offsets = offsets_of(alloc, row.marks.as_slice())?;
-    let times = times_named(alloc, source, shape, &row.name, offsets.as_slice())?;
+    let marked = offsets_of(alloc, row.marks.as_slice())?;
+    let offsets = Sorted::of(marked);
+    let times = times_each(alloc, source, shape, &row.name, &offsets)?;
     Ok(Times {
         at: Listed::new(times),
     })

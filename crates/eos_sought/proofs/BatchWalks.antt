@@ -20,8 +20,8 @@ use Rattle.eos_fold.specs.Fronts.{base_of}
 use Rattle.eos_sought.specs.declared.wanted.Standing.{Standing}
 use Rattle.eos_sought.specs.declared.wanted.Wanted.{Wanted}
 use Rattle.eos_sought.specs.Wanted.{is_wanted}
-use Rattle.eos_sought.specs.Places.{IsReadAt, IsRun, IsEnd, byte_after, offset_after, AreWantedIn}
-use Rattle.eos_sought.specs.steps.Walks.{GoesOn, HasWalked}
+use Rattle.eos_sought.specs.Places.{IsReadAt, IsRun, IsEnd, GoesOn, byte_after, offset_after, AreWantedIn}
+use Rattle.eos_sought.specs.steps.Walks.{HasWalked}
 
 -- ---- a batch
 

@@ -2,4 +2,3 @@ pub mod Keeping
 pub mod NoState
 pub mod BatchWalks
 pub mod PartitionWalks
-pub mod TimedWalks

@@ -9,4 +9,3 @@ pub mod Places
 pub mod Partitions
 pub mod Times
 pub mod Moments
-pub mod Timed

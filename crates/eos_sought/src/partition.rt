@@ -44,7 +44,8 @@ fn placed_of(alloc: Global, segments: &[Segment], wanted: Wanted) -> Result<Vec<
     Ok(all)
 }
 
-fn is_named(partition: &Partition, name: &PartitionName) -> bool
+/// Whether this is the partition's name.
+pub fn is_named(partition: &Partition, name: &PartitionName) -> bool
     ensures { result ≡ is_named name.now partition.now }
 {
     let end = &partition.end;

@@ -48,7 +48,8 @@ pub fn state_of(alloc: Global, value: Option<&[u8]>) -> Result<Option<TxnValue>,
     }
 }
 
-pub(crate) fn is_same(a: &[u8], b: &[u8]) -> bool
+/// Whether two texts are the same.
+pub fn is_same(a: &[u8], b: &[u8]) -> bool
     ensures { result ≡ is_same_text a.now b.now }
 {
     a.cmp(b).is_eq()

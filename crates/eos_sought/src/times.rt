@@ -1,9 +1,9 @@
 //! When a record was written.
 
-ghost use Rattle.std.specs.Prelude.{◌≡◌, Ok, IfOk, Some};
+ghost use Rattle.std.specs.Prelude.{◌≡◌, IfOk, slice_get};
 ghost use Rattle.std.specs.Option.{option_copied};
 ghost use Rattle.eos_sought.specs.Partitions.{partition_named};
-ghost use Rattle.eos_sought.specs.Times.{record_time, time_read, time_in_bytes, segment_named, time_in};
+ghost use Rattle.eos_sought.specs.Times.{record_time, time_of_one, time_in_bytes, segment_named, time_in};
 
 use crate::partition::{Placed, partition_named};
 use bytes::Bytes;
@@ -25,9 +25,10 @@ fn record_time(batch: &Batch, one: &Record) -> i64
     }
 }
 
-/// The time of the record of this number in a batch.
-fn time_of_number(batch: &Batch, number: u64, size: usize) -> Option<i64>
-    ensures { result ≡ time_read number (Ok (batch.now, size)) }
+/// The time of the record of this number in a batch, in milliseconds since 1970-01-01T00:00Z, as the batch says it; None where it
+/// has no such record.
+pub fn time_of_number(batch: &Batch, number: u64) -> Option<i64>
+    ensures { result ≡ time_of_one batch.now (slice_get batch.now.records number) }
 {
     let records = batch.records.as_slice();
     if number >= records.len() as u64 {
@@ -36,7 +37,7 @@ fn time_of_number(batch: &Batch, number: u64, size: usize) -> Option<i64>
     Some(record_time(batch, &records[number as usize]))
 }
 
-pub(crate) fn time_in_bytes(
+fn time_in_bytes(
     alloc: Global,
     bytes: &Bytes,
     byte: usize,
@@ -48,7 +49,7 @@ pub(crate) fn time_in_bytes(
         return Ok(None);
     }
     match next_batch(alloc, bytes, byte)? {
-        Ok((batch, size)) => Ok(time_of_number(&batch, number, size)),
+        Ok((batch, _size)) => Ok(time_of_number(&batch, number)),
         Err(_) => Ok(None),
     }
 }

@@ -4,8 +4,7 @@ ghost use Rattle.std.specs.Prelude.{◌≡◌, ◌≢◌, ◌<◌, ◌++◌, ◌
 ghost use Rattle.eos_batch.specs.declared.fault.BatchFault.TheVariants.{OutOfMemory as WantOfMemory};
 ghost use Rattle.eos_fold.specs.Fronts.{base_of};
 ghost use Rattle.eos_sought.specs.Wanted.{is_wanted};
-ghost use Rattle.eos_sought.specs.Places.{IsEnd, AreWantedIn};
-ghost use Rattle.eos_sought.specs.steps.Walks.{GoesOn};
+ghost use Rattle.eos_sought.specs.Places.{GoesOn, IsEnd, AreWantedIn};
 
 use crate::wanted::{Standing, Wanted};
 use bytes::Bytes;
@@ -25,8 +24,12 @@ fn of_the_bytes(fault: BatchFault) -> Result<(), AllocError>
     }
 }
 
-/// The batch at this byte, where it begins at this offset; None where the segment's batches end there.
-pub(crate) fn next_standing(
+/// The batch at this byte of a segment, where it begins at this offset; None where the segment's batches end there. The batch is
+/// read and tested, and only its head is kept.
+///
+/// # Errors
+/// Only want of memory.
+pub fn next_standing(
     alloc: Global,
     bytes: &Bytes,
     at: usize,
@@ -64,7 +67,7 @@ fn push_wanted(
 }
 
 /// A segment's name, the offset of its first record.
-pub(crate) fn begin_of(segment: &Segment) -> u64
+pub fn begin_of(segment: &Segment) -> u64
     ensures { result ≡ base_of segment.now }
 {
     segment.base.unsigned_abs()

@@ -1,23 +1,21 @@
 -- Times at many offsets, each of them as it is where it is read for alone.
-use Rattle.std.proofs.Common.{◌≡◌, ◌<◌, ◌≤◌, ◌||◌, ◌==◌, ℕ, ℤ, zero, suc, ◌+◌, ◌-◌, List, [], ◌∷◌, ◌++◌, length, take, drop, get_or, flat_map, nat_le, Option, Some, None, Bool, true, false, if◌then◌else◌, refl, sym, ap, subst, ◌∙◌, arith, inl, inr}
-use Rattle.std.specs.List.{Contains}
+use Rattle.std.proofs.Common.{◌≡◌, ◌<◌, ◌≤◌, ◌&&◌, ◌||◌, ◌==◌, ℕ, ℤ, zero, suc, ◌+◌, ◌-◌, List, [], ◌∷◌, ◌++◌, length, drop, get_or, flat_map, Option, Some, None, Bool, true, false, if◌then◌else◌, refl, sym, ap, subst, ◌∙◌, arith, inl, inr}
+use Rattle.std.specs.List.{Contains, filter}
 use Rattle.std.specs.Option.{option_or}
-use Rattle.std.proofs.lemmas.Bool.{both_ways, eqb-true, ne_eqb, eq-eqb, lt-leb, le-leb, lt-ltb, le-ltb, and_from, and_parts}
-use Rattle.std.proofs.lemmas.List.{take-append-drop, get_or-take, get_or-drop, length-take-le, length-drop}
+use Rattle.std.proofs.lemmas.Bool.{eqb-true, eq-eqb}
 use Rattle.eos_base.specs.declared.partition_name.PartitionName.{PartitionName}
 use Rattle.eos_evidence.specs.declared.partition.Partition.{Partition}
 use Rattle.eos_evidence.specs.declared.segment.Segment.{Segment}
 use Rattle.eos_fold.specs.Fronts.{base_of}
 use Rattle.eos_sought.specs.declared.wanted.Standing.{Standing}
 use Rattle.eos_sought.specs.declared.wanted.Wanted.TheVariants.{Holding}
-use Rattle.eos_sought.specs.Timed.{timed, timed_by, all_timed_by, AreTimesIn}
 use Rattle.eos_sought.specs.Times.{time_in_bytes}
 use Rattle.eos_sought.specs.Wanted.{is_wanted}
 use Rattle.eos_source.specs.Said.{Known}
 use Rattle.eos_source_check.specs.Again.{IsLogAgain}
-use Rattle.eos_source_check.specs.Times.{begins_next, is_below, some_lie_in, AreTimesOf, AreTimesNamed, first_at, AreTimesEach}
-use Rattle.eos_source_check.specs.steps.Rising.{AreBelow, AreFrom}
-use Rattle.eos_source_check.specs.steps.Each.{among, lies_in, EndsAt, AreEachOf, AreEachAgain}
+use Rattle.eos_source_check.specs.Timed.{timed, timed_by, all_timed_by, AreTimesIn}
+use Rattle.eos_source_check.specs.Times.{begins_next, lies_in, some_lie_in, AreTimesOf, AreTimesNamed, first_at, AreTimesEach}
+use Rattle.eos_source_check.specs.steps.Each.{among, AreEachOf, AreEachAgain}
 use Rattle.eos_source_check.proofs.TimesAgain.{Passed, none_passed, one_passed, all_passed, IsAhead, named, all_ahead}
 
 -- ---- the first time at an offset
@@ -90,20 +88,6 @@ module _ (bytes : List ℕ) (o : ℕ) where
 
 -- ---- the offsets that lie in a segment
 
-among_append : (o : ℕ) (xs ys : List ℕ) → among o (xs ++ ys) ≡ (among o xs || among o ys)
-among_append o [] ys = refl
-among_append o (x ∷ xs) ys = go (x == o) (among_append o xs ys)
-  where
-    go : (b : Bool) → among o (xs ++ ys) ≡ (among o xs || among o ys) → (b || among o (xs ++ ys)) ≡ ((b || among o xs) || among o ys)
-    go true later = refl
-    go false later = later
-
-none_among : (o : ℕ) (xs : List ℕ) → ((k : ℕ) → k < length xs → (get_or xs k 0 == o) ≡ false) → among o xs ≡ false
-none_among o [] h = refl
-none_among o (x ∷ xs) h =
-    let out : (x == o) ≡ false = h 0 (omega arith) in
-    ap (λ (b : Bool). b || among o xs) out ∙ none_among o xs (λ k lt. h (suc k) (omega (arith, lt)))
-
 pub contained : (o : ℕ) (xs : List ℕ) → Contains xs o → among o xs ≡ true
 contained o [] h = absurd (omega (arith, h.1))
 contained o (x ∷ xs) h = go h.0 h.1 h.2 (contained o xs)
@@ -116,82 +100,26 @@ contained o (x ∷ xs) h = go h.0 h.1 h.2 (contained o xs)
     go zero lt is rest = ap (λ (b : Bool). b || among o xs) (eq-eqb x o is)
     go (suc k) lt is rest = later (x == o) (rest (k, omega (arith, lt), is))
 
--- a test tells these apart
-apart : (p : ℕ → Bool) (x o : ℕ) (b : Bool) → p x ≡ b → p o ≡ (if b then false else true) → (x == o) ≡ false
-apart p x o true px po = ne_eqb x o (λ e. both_ways (p o) po (sym (ap p e) ∙ px))
-apart p x o false px po = ne_eqb x o (λ e. both_ways (p x) px (ap p e ∙ po))
+neither : (b : Bool) → (b && false) ≡ false
+neither true = refl
+neither false = refl
 
-module _ (offsets : List ℕ) (high low base : ℕ) (next : Option ℕ) (o : ℕ) (inside : high ≤ length offsets) (ends : EndsAt offsets high next) (fewer : low ≤ length (take high offsets)) (below : AreBelow (take high offsets) low base) (from : AreFrom (take high offsets) low base) where
-  split : among o offsets ≡ ((among o (take low (take high offsets)) || among o (drop low (take high offsets))) || among o (drop high offsets))
-  split =
-      ap (among o) (sym (take-append-drop high offsets))
-      ∙ (among_append o (take high offsets) (drop high offsets)
-      ∙ ap (λ (b : Bool). b || among o (drop high offsets)) (ap (among o) (sym (take-append-drop low (take high offsets))) ∙ among_append o (take low (take high offsets)) (drop low (take high offsets))))
-
-  front_of : nat_le base o ≡ true → among o (take low (take high offsets)) ≡ false
-  front_of le = none_among o (take low (take high offsets))
-      (λ k lt.
-      let size : length (take low (take high offsets)) ≡ low = length-take-le low (take high offsets) fewer in
-      let short : k < low = omega (arith, lt, size) in
-      let there : get_or (take low (take high offsets)) k 0 ≡ get_or (take high offsets) k 0 = get_or-take low (take high offsets) k 0 short in
-      ap (λ (x : ℕ). x == o) there ∙ apart (λ x. nat_le base x) (get_or (take high offsets) k 0) o false (lt-leb base (get_or (take high offsets) k 0) (below k short)) le)
-
-  back_of : is_below next o ≡ true → among o (drop high offsets) ≡ false
-  back_of lt_next = none_among o (drop high offsets)
-      (λ k lt.
-      let size : length (drop high offsets) ≡ length offsets - high = length-drop high offsets in
-      let there : get_or (drop high offsets) k 0 ≡ get_or offsets (high + k) 0 = get_or-drop high offsets k 0 in
-      let within : high + k < length offsets = omega (arith, lt, size, inside) in
-      ap (λ (x : ℕ). x == o) there ∙ apart (is_below next) (get_or offsets (high + k) 0) o false (ends.1 (high + k) (omega arith) within) lt_next)
-
-  middle_of : lies_in base next o ≡ false → among o (drop low (take high offsets)) ≡ false
-  middle_of out = none_among o (drop low (take high offsets))
-      (λ k lt.
-      let size : length (drop low (take high offsets)) ≡ length (take high offsets) - low = length-drop low (take high offsets) in
-      let all : length (take high offsets) ≡ high = length-take-le high offsets inside in
-      let within : low + k < length (take high offsets) = omega (arith, lt, size, fewer) in
-      let at : low + k < high = omega (arith, within, all) in
-      let there : get_or (drop low (take high offsets)) k 0 ≡ get_or (take high offsets) (low + k) 0 = get_or-drop low (take high offsets) k 0 in
-      let same : get_or (take high offsets) (low + k) 0 ≡ get_or offsets (low + k) 0 = get_or-take high offsets (low + k) 0 at in
-      let in_next : is_below next (get_or (take high offsets) (low + k) 0) ≡ true = ap (is_below next) same ∙ ends.0 (low + k) at in
-      let in_base : nat_le base (get_or (take high offsets) (low + k) 0) ≡ true = le-leb base (get_or (take high offsets) (low + k) 0) (from (low + k) (omega arith) within) in
-      ap (λ (x : ℕ). x == o) there
-      ∙ apart (lies_in base next) (get_or (take high offsets) (low + k) 0) o true (and_from (nat_le base (get_or (take high offsets) (low + k) 0)) (is_below next (get_or (take high offsets) (low + k) 0)) in_base in_next) out)
-
-  by_test : (b : Bool) → lies_in base next o ≡ b → among o offsets ≡ true → among o (drop low (take high offsets)) ≡ b
-  by_test false isnt here = middle_of isnt
-  by_test true is_so here =
-      let parts = and_parts (nat_le base o) (is_below next o) is_so in
-      only (among o (take low (take high offsets))) (among o (drop low (take high offsets))) (among o (drop high offsets)) (front_of parts.0) (back_of parts.1) (sym split ∙ here)
-    where
-      only : (a b c : Bool) → a ≡ false → c ≡ false → ((a || b) || c) ≡ true → b ≡ true
-      only false true false p q r = refl
-      only false false false p q r = absurd cc
-      only true b c p q r = absurd cc
-      only false b true p q r = absurd cc
-
-  pub lying : among o offsets ≡ true → among o (drop low (take high offsets)) ≡ lies_in base next o
-  lying here = by_test (lies_in base next o) refl here
-
-pub lying_by : (offsets before lies : List ℕ) (high low base : ℕ) (next : Option ℕ) → high ≤ length offsets → EndsAt offsets high next → before ≡ take high offsets → low ≤ length before → AreBelow before low base → AreFrom before low base
-    → lies ≡ drop low before → (o : ℕ) → among o offsets ≡ true → among o lies ≡ lies_in base next o
-lying_by offsets before lies high low base next inside ends front fewer below from rest = λ o here.
-    let l : low ≤ length (take high offsets) = subst (λ (xs : List ℕ). low ≤ length xs) front fewer in
-    let b : AreBelow (take high offsets) low base = subst (λ (xs : List ℕ). AreBelow xs low base) front below in
-    let f : AreFrom (take high offsets) low base = subst (λ (xs : List ℕ). AreFrom xs low base) front from in
-    ap (among o) (rest ∙ ap (drop low) front) ∙ lying offsets high low base next o inside ends l b f here
-
-pub ends_never : (offsets : List ℕ) (count : ℕ) (next : Option ℕ) → next ≡ None → count ≡ length offsets → EndsAt offsets count next
-ends_never offsets count next is all =
-    subst (EndsAt offsets count) (sym is) ((λ k lt. refl), (λ k le lt. absurd (omega (arith, le, lt, all))))
-
-pub ends_there : (offsets : List ℕ) (count end : ℕ) (next : Option ℕ) → next ≡ Some end → AreBelow offsets count end → AreFrom offsets count end → EndsAt offsets count next
-ends_there offsets count end next is below from =
-    subst (EndsAt offsets count) (sym is) ((λ k lt. lt-ltb (get_or offsets k 0) end (below k lt)), (λ k le lt. le-ltb (get_or offsets k 0) end (from k le lt)))
+among_filter : (p : ℕ → Bool) (o : ℕ) (xs : List ℕ) → among o (filter p xs) ≡ (among o xs && p o)
+among_filter p o [] = refl
+among_filter p o (x ∷ xs) = go (p x) (x == o) (p o) refl refl refl (among_filter p o xs)
+  where
+    go : (b c d : Bool) → p x ≡ b → (x == o) ≡ c → p o ≡ d → among o (filter p xs) ≡ (among o xs && p o) → among o (filter p (x ∷ xs)) ≡ (((x == o) || among o xs) && p o)
+    go true true d e f g later = let same : p o ≡ true = ap p (sym (eqb-true x o f)) ∙ e in rw (e, f, same) refl
+    go true false d e f g later = rw (e, f) later
+    go false true d e f g later = let same : p o ≡ false = ap p (sym (eqb-true x o f)) ∙ e in rw (e, f, same) (later ∙ rw same (neither (among o xs)))
+    go false false d e f g later = rw (e, f) later
 
 -- ---- the times of a segment
 
-module _ (known : Known) (name : Segment) (next : Option ℕ) (offsets lying : List ℕ) (which : (o : ℕ) → among o offsets ≡ true → among o lying ≡ lies_in (base_of name) next o) where
+module _ (known : Known) (name : Segment) (next : Option ℕ) (offsets lying : List ℕ) (base : ℕ) (at : base ≡ base_of name) (are : lying ≡ filter (lies_in base next) offsets) where
+  which : (o : ℕ) → among o offsets ≡ true → among o lying ≡ lies_in (base_of name) next o
+  which o here = ap (among o) are ∙ (among_filter (lies_in base next) o offsets ∙ (ap (λ (b : Bool). b && lies_in base next o) here ∙ ap (λ (n : ℕ). lies_in n next o) at))
+
   lies_alone : (o : ℕ) → lies_in (base_of name) next o ≡ false → some_lie_in (base_of name) next (o ∷ []) ≡ false
   lies_alone o out = ap (λ (b : Bool). b || false) out
 
@@ -206,15 +134,15 @@ module _ (known : Known) (name : Segment) (next : Option ℕ) (offsets lying : L
 
   by_lying : (segment : Segment) (times : List (ℕ × ℤ)) → IsLogAgain known name segment → AreTimesIn segment lying times → (o : ℕ) → among o offsets ≡ true → (b : Bool) → lies_in (base_of name) next o ≡ b
       → (alone : List (ℕ × ℤ)) × AreTimesOf known name next (o ∷ []) alone × (first_at o times ≡ first_at o alone)
-  by_lying segment times again are o here true is_so =
-      let alone = flat_map (all_timed_by segment.bytes (o ∷ [])) are.all in
-      let reads : AreTimesIn segment (o ∷ []) alone = record { all = are.all; run = are.run; whole = are.whole; are = refl } in
-      (alone, inl (segment, again, reads), ap (first_at o) are.are ∙ in_batches segment.bytes o lying (which o here ∙ is_so) are.all)
-  by_lying segment times again are o here false isnt =
-      ([], inr (inr (lies_alone o isnt), refl), ap (first_at o) are.are ∙ none_in_batches segment.bytes o lying (which o here ∙ isnt) are.all)
+  by_lying segment times again read o here true is_so =
+      let alone = flat_map (all_timed_by segment.bytes (o ∷ [])) read.all in
+      let reads : AreTimesIn segment (o ∷ []) alone = record { all = read.all; run = read.run; whole = read.whole; are = refl } in
+      (alone, inl (segment, again, reads), ap (first_at o) read.are ∙ in_batches segment.bytes o lying (which o here ∙ is_so) read.all)
+  by_lying segment times again read o here false isnt =
+      ([], inr (inr (lies_alone o isnt), refl), ap (first_at o) read.are ∙ none_in_batches segment.bytes o lying (which o here ∙ isnt) read.all)
 
   pub each_of_log : (segment : Segment) (times : List (ℕ × ℤ)) → IsLogAgain known name segment → AreTimesIn segment lying times → AreEachOf known name next offsets times
-  each_of_log segment times again are = λ o here. by_lying segment times again are o here (lies_in (base_of name) next o) refl
+  each_of_log segment times again read = λ o here. by_lying segment times again read o here (lies_in (base_of name) next o) refl
 
 -- ---- of a partition
 

@@ -18,6 +18,7 @@ pub mod Among
 pub mod KeptNotes
 pub mod KeptTallies
 pub mod TimesAgain
+pub mod TimedWalks
 pub mod RefusalsTold
 pub mod RisingTimes
 pub mod EachTimes

@@ -1,35 +1,26 @@
--- The times of a batch's records at offsets that rise.
-use Rattle.std.proofs.Common.{◌≡◌, ◌<◌, ◌≤◌, ℕ, ℤ, suc, ◌+◌, ◌-◌, List, [], ◌∷◌, ◌++◌, length, take, drop, get_or, flat_map, nat_lt, nat_le, Result, Ok, Err, None, Bool, true, false, if◌then◌else◌, refl, sym, ap, subst, ◌∙◌, arith}
-use Rattle.std.proofs.lemmas.List.{append-nil, take-append-drop, get_or-take, get_or-drop, length-take-le, length-drop}
-use Rattle.std.proofs.lemmas.Bool.{and_left, and_right, lt-leb, lt-ltb, le-ltb}
-use Rattle.std.proofs.lemmas.List.Sorted.{IsNonDecreasingBy-take, IsNonDecreasingBy-drop}
-use Rattle.std.proofs.lemmas.Grind.{flat_map-append}
-use Rattle.std.specs.List.Sorted.{IsNonDecreasing}
+-- Offsets that rise, and the times of a batch's records at them.
+use Rattle.std.proofs.Common.{◌≡◌, ◌<◌, ◌≤◌, ◌&&◌, ℕ, ℤ, zero, suc, ◌+◌, ◌-◌, List, [], ◌∷◌, ◌++◌, length, take, drop, get_or, flat_map, nat_lt, nat_le, Result, Ok, Err, Option, Some, None, Bool, true, false, cond, if◌then◌else◌, refl, sym, ap, subst, ◌∙◌, arith}
+use Rattle.std.specs.List.{filter}
+use Rattle.std.specs.List.Sorted.{IsNonDecreasing, IsSorted}
+use Rattle.std.specs.Ordering.{nat_cmp}
+use Rattle.std.proofs.lemmas.List.{append-nil}
+use Rattle.std.proofs.lemmas.Bool.{le-leb, lt-leb, lt-ltb, le-ltb}
+use Rattle.std.proofs.lemmas.List.Sorted.{IsNonDecreasingBy-take, IsNonDecreasingBy-drop, IsNonDecreasingBy-from_sort}
 use Rattle.eos_batch.specs.declared.batch.Batch.{Batch}
 use Rattle.eos_batch.specs.declared.fault.BatchFault.{BatchFault}
 use Rattle.eos_batch.specs.Reading.{batch_at}
 use Rattle.eos_sought.specs.declared.wanted.Standing.{Standing}
 use Rattle.eos_sought.specs.declared.wanted.Wanted.TheVariants.{Holding}
-use Rattle.eos_sought.specs.Timed.{timed, timed_by, all_timed_by}
 use Rattle.eos_sought.specs.Times.{time_read, time_in_bytes}
 use Rattle.eos_sought.specs.Wanted.{is_wanted}
+use Rattle.eos_source_check.specs.Timed.{timed, timed_by, all_timed_by}
+use Rattle.eos_source_check.specs.Times.{lies_in}
 use Rattle.eos_source_check.specs.steps.Rising.{AreBelow, AreFrom, timed_of}
 
--- ---- those that a batch doesn't hold
+-- ---- a run of them
 
-below_batch : (s : Standing) (o : ℕ) → o < s.head.offset → is_wanted (Holding o) s.head ≡ false
-below_batch s o lt = and_left (nat_le s.head.offset o) (nat_lt o (s.head.offset + s.head.count)) (lt-leb s.head.offset o lt)
-
-behind_batch : (s : Standing) (o : ℕ) → s.head.offset + s.head.count ≤ o → is_wanted (Holding o) s.head ≡ false
-behind_batch s o le = and_right (nat_le s.head.offset o) (nat_lt o (s.head.offset + s.head.count)) (le-ltb o (s.head.offset + s.head.count) le)
-
-none_timed : (bytes : List ℕ) (s : Standing) (xs : List ℕ) → ((k : ℕ) → k < length xs → is_wanted (Holding (get_or xs k 0)) s.head ≡ false) → all_timed_by bytes xs s ≡ []
-none_timed bytes s [] h = refl
-none_timed bytes s (x ∷ xs) h =
-    let out : is_wanted (Holding x) s.head ≡ false = h 0 (omega arith) in
-    let here : timed_by bytes s x ≡ [] = ap (λ (b : Bool). if b then timed x (time_in_bytes bytes s.byte (x - s.head.offset)) else []) out in
-    let there : all_timed_by bytes xs s ≡ [] = none_timed bytes s xs (λ k lt. h (suc k) (omega (arith, lt))) in
-    ap (λ (ys : List (ℕ × ℤ)). ys ++ all_timed_by bytes xs s) here ∙ there
+pub rising : (offsets : List ℕ) → IsSorted nat_cmp offsets → IsNonDecreasing offsets
+rising offsets sorted = IsNonDecreasingBy-from_sort (λ (x : ℕ). x) offsets sorted
 
 -- what stands before one that is below is below, and what stands behind one that isn't isn't
 pub all_below : (offsets : List ℕ) (bound middle : ℕ) → IsNonDecreasing offsets → middle < length offsets → get_or offsets middle 0 < bound → AreBelow offsets (middle + 1) bound
@@ -44,41 +35,82 @@ all_from offsets bound middle rising le = λ k m inside.
     let s : bound ≤ get_or offsets k 0 = omega (arith, r, le) in
     s
 
--- those behind it and those before it are left out
-pub held_alone : (bytes : List ℕ) (s : Standing) (offsets : List ℕ) (high low : ℕ) → high ≤ length offsets → AreFrom offsets high (s.head.offset + s.head.count) → low ≤ length (take high offsets) → AreBelow (take high offsets) low s.head.offset
-    → all_timed_by bytes (drop low (take high offsets)) s ≡ all_timed_by bytes offsets s
-held_alone bytes s offsets high low inside from fewer below =
-    let front = take high offsets in
-    let f = timed_by bytes s in
-    let short : length (take low front) ≡ low = length-take-le low front fewer in
-    let long : length (drop high offsets) ≡ length offsets - high = length-drop high offsets in
-    let before : all_timed_by bytes (take low front) s ≡ [] = none_timed bytes s (take low front)
-    (λ k lt.
-    let m : k < low = omega (arith, lt, short) in
-    subst (λ (o : ℕ). is_wanted (Holding o) s.head ≡ false) (sym (get_or-take low front k 0 m)) (below_batch s (get_or front k 0) (below k m))) in
-    let behind : all_timed_by bytes (drop high offsets) s ≡ [] = none_timed bytes s (drop high offsets)
-    (λ k lt.
-    let m : high + k < length offsets = omega (arith, lt, long, inside) in
-    subst (λ (o : ℕ). is_wanted (Holding o) s.head ≡ false) (sym (get_or-drop high offsets k 0)) (behind_batch s (get_or offsets (high + k) 0) (from (high + k) (omega arith) m))) in
-    let one : flat_map f front ≡ flat_map f (drop low front) =
-    sym (ap (flat_map f) (take-append-drop low front)) ∙ (flat_map-append f (take low front) (drop low front) ∙ ap (λ (ys : List (ℕ × ℤ)). ys ++ flat_map f (drop low front)) before) in
-    let two : flat_map f offsets ≡ flat_map f front =
-    sym (ap (flat_map f) (take-append-drop high offsets)) ∙ (flat_map-append f front (drop high offsets) ∙ (ap (λ (ys : List (ℕ × ℤ)). flat_map f front ++ ys) behind ∙ append-nil (flat_map f front))) in
-    sym (two ∙ one)
+-- so many at the front are those that are below
+pub filtered_front : (offsets : List ℕ) (count bound : ℕ) → AreBelow offsets count bound → AreFrom offsets count bound → take count offsets ≡ filter (λ o. nat_lt o bound) offsets
+filtered_front [] zero bound below from = refl
+filtered_front [] (suc count) bound below from = refl
+filtered_front (x ∷ xs) zero bound below from =
+    let out : nat_lt x bound ≡ false = le-ltb x bound (from 0 (omega arith) (omega arith)) in
+    filtered_front xs zero bound (λ k lt. absurd (omega (arith, lt))) (λ k le lt. from (suc k) (omega arith) (omega (arith, lt)))
+    ∙ sym (ap (λ (b : Bool). cond b (x ∷ filter (λ o. nat_lt o bound) xs) (filter (λ o. nat_lt o bound) xs)) out)
+filtered_front (x ∷ xs) (suc count) bound below from =
+    let in_front : nat_lt x bound ≡ true = lt-ltb x bound (below 0 (omega arith)) in
+    ap (λ (ys : List ℕ). x ∷ ys) (filtered_front xs count bound (λ k lt. below (suc k) (omega (arith, lt))) (λ k le lt. from (suc k) (omega (arith, le)) (omega (arith, lt))))
+    ∙ sym (ap (λ (b : Bool). cond b (x ∷ filter (λ o. nat_lt o bound) xs) (filter (λ o. nat_lt o bound) xs)) in_front)
 
-pub held_by : (bytes : List ℕ) (s : Standing) (offsets before held : List ℕ) (high low end : ℕ) → high ≤ length offsets → AreFrom offsets high end → end ≡ s.head.offset + s.head.count → before ≡ take high offsets → low ≤ length before
-    → AreBelow before low s.head.offset → held ≡ drop low before → all_timed_by bytes held s ≡ all_timed_by bytes offsets s
-held_by bytes s offsets before held high low end inside from ends front fewer below rest =
-    let f : AreFrom offsets high (s.head.offset + s.head.count) = subst (AreFrom offsets high) ends from in
-    let l : low ≤ length (take high offsets) = subst (λ (xs : List ℕ). low ≤ length xs) front fewer in
-    let b : AreBelow (take high offsets) low s.head.offset = subst (λ (xs : List ℕ). AreBelow xs low s.head.offset) front below in
-    ap (λ (xs : List ℕ). all_timed_by bytes xs s) (rest ∙ ap (drop low) front) ∙ held_alone bytes s offsets high low inside f l b
+-- and the others are those that aren't
+pub filtered_rest : (offsets : List ℕ) (count bound : ℕ) → AreBelow offsets count bound → AreFrom offsets count bound → drop count offsets ≡ filter (nat_le bound) offsets
+filtered_rest [] zero bound below from = refl
+filtered_rest [] (suc count) bound below from = refl
+filtered_rest (x ∷ xs) zero bound below from =
+    let here : nat_le bound x ≡ true = le-leb bound x (from 0 (omega arith) (omega arith)) in
+    ap (λ (ys : List ℕ). x ∷ ys) (filtered_rest xs zero bound (λ k lt. absurd (omega (arith, lt))) (λ k le lt. from (suc k) (omega arith) (omega (arith, lt))))
+    ∙ sym (ap (λ (b : Bool). cond b (x ∷ filter (nat_le bound) xs) (filter (nat_le bound) xs)) here)
+filtered_rest (x ∷ xs) (suc count) bound below from =
+    let out : nat_le bound x ≡ false = lt-leb bound x (below 0 (omega arith)) in
+    filtered_rest xs count bound (λ k lt. below (suc k) (omega (arith, lt))) (λ k le lt. from (suc k) (omega (arith, le)) (omega (arith, lt)))
+    ∙ sym (ap (λ (b : Bool). cond b (x ∷ filter (nat_le bound) xs) (filter (nat_le bound) xs)) out)
 
 pub rising_front : (offsets front : List ℕ) (count : ℕ) → front ≡ take count offsets → IsNonDecreasing offsets → IsNonDecreasing front
 rising_front offsets front count is rising = subst IsNonDecreasing (sym is) (IsNonDecreasingBy-take (λ (x : ℕ). x) count offsets rising)
 
 pub rising_rest : (offsets rest : List ℕ) (count : ℕ) → rest ≡ drop count offsets → IsNonDecreasing offsets → IsNonDecreasing rest
 rising_rest offsets rest count is rising = subst IsNonDecreasing (sym is) (IsNonDecreasingBy-drop (λ (x : ℕ). x) count offsets rising)
+
+filter_twice : (p q : ℕ → Bool) (xs : List ℕ) → filter p (filter q xs) ≡ filter (λ o. p o && q o) xs
+filter_twice p q [] = refl
+filter_twice p q (x ∷ xs) = go (p x) (q x) refl refl (filter_twice p q xs)
+  where
+    go : (b c : Bool) → p x ≡ b → q x ≡ c → filter p (filter q xs) ≡ filter (λ o. p o && q o) xs → filter p (filter q (x ∷ xs)) ≡ filter (λ o. p o && q o) (x ∷ xs)
+    go true true e f later = rw (e, f) (rw e (ap (λ (ys : List ℕ). x ∷ ys) later))
+    go true false e f later = rw (e, f) later
+    go false true e f later = rw (e, f) (rw e later)
+    go false false e f later = rw (e, f) later
+
+same_filter : (p q : ℕ → Bool) (xs : List ℕ) → ((x : ℕ) → p x ≡ q x) → filter p xs ≡ filter q xs
+same_filter p q [] h = refl
+same_filter p q (x ∷ xs) h = ap (λ (b : Bool). cond b (x ∷ filter p xs) (filter p xs)) (h x) ∙ ap (λ (ys : List ℕ). cond (q x) (x ∷ ys) ys) (same_filter p q xs h)
+
+pub without_end : (offsets lies : List ℕ) (begin : ℕ) (next : Option ℕ) → next ≡ None → lies ≡ filter (nat_le begin) offsets → lies ≡ filter (lies_in begin next) offsets
+without_end offsets lies begin next none is =
+    is ∙ (same_filter (nat_le begin) (lies_in begin None) offsets (λ x. always (nat_le begin x)) ∙ ap (λ (n : Option ℕ). filter (lies_in begin n) offsets) (sym none))
+  where
+    always : (b : Bool) → b ≡ (b && true)
+    always true = refl
+    always false = refl
+
+pub with_end : (offsets before lies : List ℕ) (begin end : ℕ) (next : Option ℕ) → next ≡ Some end → before ≡ filter (λ o. nat_lt o end) offsets → lies ≡ filter (nat_le begin) before → lies ≡ filter (lies_in begin next) offsets
+with_end offsets before lies begin end next some front is =
+    is ∙ (ap (filter (nat_le begin)) front ∙ (filter_twice (nat_le begin) (λ o. nat_lt o end) offsets ∙ ap (λ (n : Option ℕ). filter (lies_in begin n) offsets) (sym some)))
+
+-- ---- of a batch those that it holds are enough
+
+held_alone : (bytes : List ℕ) (s : Standing) (offsets : List ℕ) → all_timed_by bytes (filter (lies_in s.head.offset (Some (s.head.offset + s.head.count))) offsets) s ≡ all_timed_by bytes offsets s
+held_alone bytes s [] = refl
+held_alone bytes s (x ∷ xs) = go (is_wanted (Holding x) s.head) refl (held_alone bytes s xs)
+  where
+    held : List ℕ
+    held = filter (lies_in s.head.offset (Some (s.head.offset + s.head.count))) xs
+
+    go : (b : Bool) → is_wanted (Holding x) s.head ≡ b → all_timed_by bytes held s ≡ all_timed_by bytes xs s → all_timed_by bytes (cond (is_wanted (Holding x) s.head) (x ∷ held) held) s ≡ timed_by bytes s x ++ all_timed_by bytes xs s
+    go true e later = ap (λ (b : Bool). all_timed_by bytes (cond b (x ∷ held) held) s) e ∙ ap (λ (ys : List (ℕ × ℤ)). timed_by bytes s x ++ ys) later
+    go false e later =
+        ap (λ (b : Bool). all_timed_by bytes (cond b (x ∷ held) held) s) e
+        ∙ (later ∙ sym (ap (λ (b : Bool). (if b then timed x (time_in_bytes bytes s.byte (x - s.head.offset)) else []) ++ all_timed_by bytes xs s) e))
+
+held_by : (bytes : List ℕ) (s : Standing) (offsets held : List ℕ) (count : ℕ) → count ≡ s.head.count → held ≡ filter (lies_in s.head.offset (Some (s.head.offset + count))) offsets → all_timed_by bytes held s ≡ all_timed_by bytes offsets s
+held_by bytes s offsets held count counted is =
+    ap (λ (xs : List ℕ). all_timed_by bytes xs s) (is ∙ ap (λ (n : ℕ). filter (lies_in s.head.offset (Some (s.head.offset + n))) offsets) counted) ∙ held_alone bytes s offsets
 
 -- ---- the batch, decoded once
 
@@ -91,7 +123,7 @@ timed_so bytes s x read lt is =
     let inside : nat_lt s.byte (length bytes) ≡ true = lt-ltb s.byte (length bytes) lt in
     ap (λ (b : Bool). by_read s x b (batch_at (drop s.byte bytes))) inside ∙ ap (λ (r : Result (Batch × ℕ) BatchFault). by_read s x true r) is
 
-pub decoded : (bytes : List ℕ) (s : Standing) (batch : Batch) (size : ℕ) (xs : List ℕ) → s.byte < length bytes → batch_at (drop s.byte bytes) ≡ Ok (batch, size) → all_timed_by bytes xs s ≡ flat_map (timed_of batch s) xs
+decoded : (bytes : List ℕ) (s : Standing) (batch : Batch) (size : ℕ) (xs : List ℕ) → s.byte < length bytes → batch_at (drop s.byte bytes) ≡ Ok (batch, size) → all_timed_by bytes xs s ≡ flat_map (timed_of batch s) xs
 decoded bytes s batch size [] lt read = refl
 decoded bytes s batch size (x ∷ xs) lt read =
     let one : timed_by bytes s x ≡ timed_of batch s x = timed_so bytes s x (Ok (batch, size)) lt read in
@@ -101,7 +133,7 @@ nothing : (b : Bool) → Path (List (ℕ × ℤ)) (if b then [] else []) []
 nothing true = refl
 nothing false = refl
 
-pub undecoded : (bytes : List ℕ) (s : Standing) (fault : BatchFault) (xs : List ℕ) → s.byte < length bytes → batch_at (drop s.byte bytes) ≡ Err fault → all_timed_by bytes xs s ≡ []
+undecoded : (bytes : List ℕ) (s : Standing) (fault : BatchFault) (xs : List ℕ) → s.byte < length bytes → batch_at (drop s.byte bytes) ≡ Err fault → all_timed_by bytes xs s ≡ []
 undecoded bytes s fault [] lt read = refl
 undecoded bytes s fault (x ∷ xs) lt read =
     let one : timed_by bytes s x ≡ [] = timed_so bytes s x (Err fault) lt read ∙ nothing (is_wanted (Holding x) s.head) in
@@ -109,17 +141,17 @@ undecoded bytes s fault (x ∷ xs) lt read =
 
 -- ---- pushed
 
-pub pushed_none : (bytes : List ℕ) (s : Standing) (offsets held : List ℕ) (times : List (ℕ × ℤ)) → held ≡ [] → all_timed_by bytes held s ≡ all_timed_by bytes offsets s → times ≡ times ++ all_timed_by bytes offsets s
-pushed_none bytes s offsets held times none same =
-    let e : all_timed_by bytes offsets s ≡ [] = sym same ∙ ap (λ (xs : List ℕ). all_timed_by bytes xs s) none in
-    sym (ap (λ (ys : List (ℕ × ℤ)). times ++ ys) e ∙ append-nil times)
+module _ (bytes : List ℕ) (s : Standing) (offsets held : List ℕ) (count : ℕ) (counted : count ≡ s.head.count) (are : held ≡ filter (lies_in s.head.offset (Some (s.head.offset + count))) offsets) where
+  same : all_timed_by bytes held s ≡ all_timed_by bytes offsets s
+  same = held_by bytes s offsets held count counted are
 
-pub pushed_unread : (bytes : List ℕ) (s : Standing) (offsets held : List ℕ) (fault : BatchFault) (times : List (ℕ × ℤ)) → s.byte < length bytes → batch_at (drop s.byte bytes) ≡ Err fault
-    → all_timed_by bytes held s ≡ all_timed_by bytes offsets s → times ≡ times ++ all_timed_by bytes offsets s
-pushed_unread bytes s offsets held fault times lt read same =
-    sym (ap (λ (ys : List (ℕ × ℤ)). times ++ ys) (sym same ∙ undecoded bytes s fault held lt read) ∙ append-nil times)
+  pub pushed_none : (times : List (ℕ × ℤ)) → held ≡ [] → times ≡ times ++ all_timed_by bytes offsets s
+  pushed_none times none =
+      let e : all_timed_by bytes offsets s ≡ [] = sym same ∙ ap (λ (xs : List ℕ). all_timed_by bytes xs s) none in
+      sym (ap (λ (ys : List (ℕ × ℤ)). times ++ ys) e ∙ append-nil times)
 
-pub pushed_read : (bytes : List ℕ) (s : Standing) (offsets held : List ℕ) (batch : Batch) (size : ℕ) (before after : List (ℕ × ℤ)) → s.byte < length bytes → batch_at (drop s.byte bytes) ≡ Ok (batch, size)
-    → all_timed_by bytes held s ≡ all_timed_by bytes offsets s → after ≡ before ++ flat_map (timed_of batch s) held → after ≡ before ++ all_timed_by bytes offsets s
-pushed_read bytes s offsets held batch size before after lt read same pushed =
-    pushed ∙ ap (λ (ys : List (ℕ × ℤ)). before ++ ys) (sym (decoded bytes s batch size held lt read) ∙ same)
+  pub pushed_unread : (fault : BatchFault) (times : List (ℕ × ℤ)) → s.byte < length bytes → batch_at (drop s.byte bytes) ≡ Err fault → times ≡ times ++ all_timed_by bytes offsets s
+  pushed_unread fault times lt read = sym (ap (λ (ys : List (ℕ × ℤ)). times ++ ys) (sym same ∙ undecoded bytes s fault held lt read) ∙ append-nil times)
+
+  pub pushed_read : (batch : Batch) (size : ℕ) (before after : List (ℕ × ℤ)) → s.byte < length bytes → batch_at (drop s.byte bytes) ≡ Ok (batch, size) → after ≡ before ++ flat_map (timed_of batch s) held → after ≡ before ++ all_timed_by bytes offsets s
+  pushed_read batch size before after lt read pushed = pushed ∙ ap (λ (ys : List (ℕ × ℤ)). before ++ ys) (sym (decoded bytes s batch size held lt read) ∙ same)

@@ -1,28 +1,12 @@
 -- Times of segments and of partitions, one after the other.
-use Rattle.std.proofs.Common.{◌≡◌, ◌<◌, ◌≤◌, ℕ, ℤ, suc, ◌+◌, List, [], ◌∷◌, ◌++◌, length, drop, get_or, Option, Bool, true, false, refl, sym, ap, subst, ◌∙◌, append_assoc, append-nil, arith, inl, inr}
+use Rattle.std.proofs.Common.{◌≡◌, ◌<◌, ◌≤◌, ℕ, ℤ, suc, ◌+◌, List, [], ◌∷◌, ◌++◌, length, drop, get_or, Option, Bool, true, false, refl, sym, ap, subst, ◌∙◌, append_assoc, append-nil, arith}
 use Rattle.std.proofs.lemmas.List.{drop_more, drop_all}
 use Rattle.eos_base.specs.declared.partition_name.PartitionName.{PartitionName}
 use Rattle.eos_evidence.specs.declared.partition.Partition.{Partition}
 use Rattle.eos_evidence.specs.declared.segment.Segment.{Segment}
-use Rattle.eos_fold.specs.Fronts.{base_of}
 use Rattle.eos_sought.specs.Partitions.{is_named}
-use Rattle.eos_sought.specs.Timed.{AreTimesIn}
 use Rattle.eos_source.specs.Said.{Known}
-use Rattle.eos_source_check.specs.Again.{IsLogAgain}
-use Rattle.eos_source_check.specs.Times.{begins_next, some_lie_in, AreTimesOf, AreTimesAgain, AreTimesIf, AreTimesNamed}
-
--- ---- a segment
-
-pub of_log : (known : Known) (name segment : Segment) (next : Option ℕ) (offsets : List ℕ) (times : List (ℕ × ℤ)) → IsLogAgain known name segment → AreTimesIn segment offsets times
-    → AreTimesOf known name next offsets times
-of_log known name segment next offsets times again are = inl (segment, again, are)
-
-pub of_fold : (known : Known) (name : Segment) (next : Option ℕ) (offsets : List ℕ) (times : List (ℕ × ℤ)) → known.log ≡ false → times ≡ [] → AreTimesOf known name next offsets times
-of_fold known name next offsets times fold none = inr (inl fold, none)
-
-pub of_none : (known : Known) (name : Segment) (base : ℕ) (next : Option ℕ) (offsets : List ℕ) (times : List (ℕ × ℤ)) → base ≡ base_of name → some_lie_in base next offsets ≡ false → times ≡ []
-    → AreTimesOf known name next offsets times
-of_none known name base next offsets times at nowhere none = inr (inr (subst (λ (n : ℕ). some_lie_in n next offsets ≡ false) at nowhere), none)
+use Rattle.eos_source_check.specs.Times.{begins_next, AreTimesOf, AreTimesAgain, AreTimesIf, AreTimesNamed}
 
 -- ---- a partition
 

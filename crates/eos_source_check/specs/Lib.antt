@@ -5,4 +5,5 @@ pub mod LaterFaults
 pub mod Again
 pub mod Listed
 pub mod Refusals
+pub mod Timed
 pub mod Times

@@ -7,9 +7,9 @@ use Rattle.eos_evidence.specs.declared.partition.Partition.{Partition}
 use Rattle.eos_evidence.specs.declared.segment.Segment.{Segment}
 use Rattle.eos_fold.specs.Fronts.{base_of}
 use Rattle.eos_sought.specs.Partitions.{is_named}
-use Rattle.eos_sought.specs.Timed.{AreTimesIn}
 use Rattle.eos_source.specs.Said.{Known}
 use Rattle.eos_source_check.specs.Again.{IsLogAgain}
+use Rattle.eos_source_check.specs.Timed.{AreTimesIn}
 
 -- ---- a segment
 
@@ -22,10 +22,14 @@ abbrev pub is_below : Option ℕ → ℕ → Bool
 is_below None offset = true
 is_below (Some next) offset = nat_lt offset next
 
--- one of these offsets lies in a segment that begins here, where the next begins there
+-- an offset lies in a segment that begins here, where the next begins there
+abbrev pub lies_in : ℕ → Option ℕ → ℕ → Bool
+lies_in base next offset = nat_le base offset && is_below next offset
+
+-- one of these offsets does
 abbrev pub some_lie_in : ℕ → Option ℕ → List ℕ → Bool
 some_lie_in base next [] = false
-some_lie_in base next (offset ∷ offsets) = (nat_le base offset && is_below next offset) || some_lie_in base next offsets
+some_lie_in base next (offset ∷ offsets) = lies_in base next offset || some_lie_in base next offsets
 
 -- it is read again, or isn't a log, or none of the offsets lies in it
 abbrev pub AreTimesOf : Known → Segment → Option ℕ → List ℕ → List (ℕ × ℤ) → Type 0

@@ -12,7 +12,6 @@
 
 mod again;
 mod all;
-mod each;
 mod fault;
 mod judged;
 mod kept;
@@ -27,10 +26,9 @@ mod rising;
 mod times;
 
 pub use all::{all_faults, of_partitions};
-pub use each::times_each;
 pub use fault::Unlisted;
 pub use judged::{Judged, judge_source};
 pub use later::later_faults;
 pub use listed::all_source_faults;
 pub use partitions::all_partition_faults;
-pub use times::times_named;
+pub use times::times_each;

@@ -1,69 +1,42 @@
-//! When records of a source's partition were written. Of what is kept of a log no times are left, so its segments are read again.
+//! When records of a source's partition were written. Of what is kept of a log no times are left, so its segments are read again: each in
+//! which some of the records lie, once.
 
 ghost use Rattle.std.specs.Prelude.{◌≡◌, ◌<◌, ◌+◌, ◌≤◌, false, length, drop, Some, IfOk, IfErr, MatchOption};
 ghost use Rattle.eos_evidence.specs.Evidence.{segments_of};
-ghost use Rattle.eos_fold.specs.Fronts.{base_of};
 ghost use Rattle.eos_source.specs.Said.{Known, known_by};
-ghost use Rattle.eos_sought.specs.Partitions.{is_named};
 ghost use Rattle.eos_source_check.specs.Again.{IsLogAgain};
 ghost use Rattle.eos_source_check.specs.Refusals.{IsRefusedFor, IsRefusedAgain};
+ghost use Rattle.eos_source_check.specs.Times.{begins_next, AreTimesEach};
+ghost use Rattle.eos_source_check.specs.steps.Each.{AreEachOf, AreEachAgain};
 ghost use Rattle.eos_source_check.specs.steps.Earned.{IsRefusedAmong};
 ghost use Rattle.eos_source_check.specs.steps.FaultsAgain.{IsLogOf};
-ghost use Rattle.eos_source_check.specs.Times.{begins_next, is_below, some_lie_in, AreTimesOf, AreTimesAgain, AreTimesNamed};
 
 use crate::fault::Unlisted;
+use crate::rising::{Rising, times_in};
 use bytes::Bytes;
-use eos_base::PartitionName;
+use eos_base::{PartitionName, Sorted};
 use eos_evidence::{Evidence, Partition, Segment, read_segment};
-use eos_sought::times_in;
+use eos_sought::{begin_of, is_named};
 use eos_source::{Piece, Source};
 use std::alloc::{AllocError, Global};
 
 /// The number of a piece, its name, and where the next one of its partition begins.
 #[derive(Clone, Copy)]
-pub(crate) struct Named<'a> {
-    pub piece: u64,
-    pub name: &'a Segment,
-    pub next: Option<u64>,
-}
-
-/// The segment's offset, which is its name.
-pub(crate) fn base_of(name: &Segment) -> u64
-    ensures { result ≡ base_of name.now }
-{
-    name.base.unsigned_abs()
+struct Named<'a> {
+    piece: u64,
+    name: &'a Segment,
+    next: Option<u64>,
 }
 
 /// Where the segment behind this one begins.
-pub(crate) fn begins_next(names: &[Segment], i: usize) -> Option<u64>
+fn begins_next(names: &[Segment], i: usize) -> Option<u64>
     requires { i < length names.now }
     ensures { result ≡ begins_next (drop (i + 1) names.now) }
 {
     match names.get(i + 1) {
         None => None,
-        Some(name) => Some(base_of(name)),
+        Some(name) => Some(begin_of(name)),
     }
-}
-
-fn is_below(next: Option<u64>, offset: u64) -> bool
-    ensures { result ≡ is_below next offset }
-{
-    match next {
-        None => true,
-        Some(next) => offset < next,
-    }
-}
-
-/// Whether one of these offsets lies between where a segment begins and where the next one does.
-fn some_lie_in(base: u64, next: Option<u64>, offsets: &[u64]) -> bool
-    ensures { result ≡ some_lie_in base next offsets.now }
-{
-    for offset in offsets {
-        if base <= *offset && is_below(next, *offset) {
-            return true;
-        }
-    }
-    false
 }
 
 /// The bytes of a piece, as it is read now; none of a fold.
@@ -102,7 +75,7 @@ fn segment_of(name: &Segment, bytes: Bytes) -> Result<Segment, AllocError>
 }
 
 /// The segment, as it is read now; none where it is a fold.
-pub(crate) fn log_again<S: Source>(
+fn log_again<S: Source>(
     alloc: Global,
     source: &S,
     named: Named<'_>,
@@ -117,23 +90,25 @@ pub(crate) fn log_again<S: Source>(
     Ok(Some(segment))
 }
 
-/// The times at these offsets of one segment.
+/// The times at those of these offsets that lie in a segment.
+#[tactic(auto, using(crate::proofs::EachTimes::each_of_fold))]
 fn times_of<S: Source>(
     alloc: Global,
     source: &S,
     named: Named<'_>,
-    offsets: &[u64],
+    offsets: &Rising<'_>,
 ) -> Result<Vec<(u64, i64)>, Unlisted<S::Fault>>
-    ensures times { IfOk result (λ times. AreTimesOf (known_by (S.said source.now) (S.is_log source.now) named.entry.piece) named.entry.name.now named.entry.next offsets.now times.items) }
+    ensures times { IfOk result (λ times. AreEachOf (known_by (S.said source.now) (S.is_log source.now) named.entry.piece) named.entry.name.now named.entry.next offsets.now times.items) }
     ensures refused { IfErr result (IsRefusedFor (λ fault. S.outcomes source.now named.entry.piece (Some fault))) }
 {
-    if !some_lie_in(base_of(named.name), named.next, offsets) {
+    let lying = offsets.between(begin_of(named.name), named.next);
+    if lying.is_empty() {
         return Ok(Vec::new(alloc));
     }
     match log_again(alloc, source, named)? {
         None => Ok(Vec::new(alloc)),
         Some(segment) => {
-            let times = times_in(alloc, &segment, offsets)?;
+            let times = times_in(alloc, &segment, &lying)?;
             Ok(times)
         }
     }
@@ -145,10 +120,10 @@ fn times_again<S: Source>(
     source: &S,
     shape: &Partition,
     first: u64,
-    offsets: &[u64],
+    offsets: &Rising<'_>,
 ) -> Result<Vec<(u64, i64)>, Unlisted<S::Fault>>
     requires { first + length shape.now.segments ≤ 65536 }
-    ensures times { IfOk result (λ times. AreTimesAgain (known_by (S.said source.now) (S.is_log source.now)) first shape.now.segments offsets.now times.items) }
+    ensures times { IfOk result (λ times. AreEachAgain (known_by (S.said source.now) (S.is_log source.now)) first shape.now.segments offsets.now times.items) }
     ensures refused { IfErr result (IsRefusedAmong (S.outcomes source.now) first (length shape.now.segments)) }
 {
     let names = shape.segments.as_slice();
@@ -165,37 +140,32 @@ fn times_again<S: Source>(
     Ok(times)
 }
 
-pub(crate) fn is_named(partition: &Partition, name: &PartitionName) -> bool
-    ensures { result ≡ is_named name.now partition.now }
-{
-    let end = &partition.end;
-    end.topic.as_slice().cmp(name.topic.as_slice()).is_eq() && end.partition == name.partition
-}
-
-/// The times of the records of a partition that stand at these offsets, in milliseconds since 1970-01-01T00:00Z, as the batches say
-/// them, each with its offset. The partition's segments are read again for it, one after the other and only those in which an offset
-/// lies; where one changed since it was judged, they are those of what is read now. A segment that is a fold gives none.
+/// The times of the records of a partition that stand at these offsets, in milliseconds since 1970-01-01T00:00Z, as the batches say them,
+/// each with its offset: at each offset the first of them is the one that a reading for it alone gives. The partition's segments are read
+/// again for it, one after the other and only those in which an offset lies; where one changed since it was judged, they are those of what
+/// is read now. A segment that is a fold gives none. The work is that of these walks, and a step for each offset.
 ///
-/// Memory is that of one segment.
+/// Memory is that of one segment, and of the times.
 ///
 /// # Errors
 /// A segment isn't there any more, or can't be read; or want of memory.
-pub fn times_named<S: Source>(
+pub fn times_each<S: Source>(
     alloc: Global,
     source: &S,
     shape: &Evidence,
     name: &PartitionName,
-    offsets: &[u64],
+    offsets: &Sorted<u64>,
 ) -> Result<Vec<(u64, i64)>, Unlisted<S::Fault>>
-    ensures times { IfOk result (λ times. AreTimesNamed (known_by (S.said source.now) (S.is_log source.now)) 0 shape.now.partitions name.now offsets.now times.items) }
+    ensures times { IfOk result (λ times. AreTimesEach (known_by (S.said source.now) (S.is_log source.now)) shape.now.partitions name.now offsets.now times.items) }
     ensures refused { IfErr result (IsRefusedAgain (S.outcomes source.now) (length (segments_of shape.now.partitions))) }
 {
     let partitions = shape.partitions();
+    let offsets = Rising::of(offsets);
     let mut first = 0u64;
     for i in 0..partitions.len() {
         let partition = &partitions[i];
         if is_named(partition, name) {
-            let times = times_again(alloc, source, partition, first, offsets)?;
+            let times = times_again(alloc, source, partition, first, &offsets)?;
             return Ok(times);
         }
         first += partition.segments.len() as u64;

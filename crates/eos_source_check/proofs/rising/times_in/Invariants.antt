@@ -1,7 +1,7 @@
 use Rattle.std.proofs.Common.{◌≤◌, ◌-◌, length}
 use Rattle.eos_fold.specs.Fronts.{base_of}
-use Rattle.eos_sought.specs.steps.Walks.{HasTimed}
-use Rattle.eos_sought.proofs.timed.times_in.Given as goal
+use Rattle.eos_source_check.specs.steps.Rising.{HasTimed}
+use Rattle.eos_source_check.proofs.rising.times_in.Given as goal
 
 abbrev pub invariant-loop-at : goal.invariant-loop-at
 invariant-loop-at l = record {

@@ -5,14 +5,15 @@ use Rattle.eos_evidence.specs.Evidence.{segments_of}
 use Rattle.eos_sought.specs.Partitions.{is_named}
 use Rattle.eos_source.specs.Said.{known_by}
 use Rattle.eos_source_check.specs.Refusals.{IsRefusedAgain}
+use Rattle.eos_source_check.specs.Times.{AreTimesEach}
 use Rattle.eos_source_check.proofs.EachTimes.{each_named, none_named}
 use Rattle.eos_source_check.proofs.EarnedAgain.{refused_again}
 use Rattle.eos_source_check.proofs.PassedAgain.{first_next, room}
 use Rattle.eos_source_check.proofs.TimesAgain.{none_ahead, named, not_named}
-use Rattle.eos_source_check.proofs.each.times_each.Goals as goal
+use Rattle.eos_source_check.proofs.times.times_each.Goals as goal
 
-pub times_again-requires-clause-room : goal.times_again-requires-clause-room
-times_again-requires-clause-room g c =
+pub times_again-requires-after_bounds : goal.times_again-requires-after_bounds
+times_again-requires-after_bounds g c =
     let at = c.loop-i.invariant.0 in
     let fits = room c.args.shape.now c.partitions-partitions.result.now c.loop-i.i c.index-partitions-i.result c.partitions-partitions.ensures.value c.partitions-partitions.ensures.evidence
     c.loop-i-test.true c.index-partitions-i.is in
@@ -53,10 +54,11 @@ returns-then-is_named-clause-times g c =
     let i = c.loop-i.i in
     let p = c.index-partitions-i.result in
     let so : is_named name p ≡ true = sym c.is_named.ensures ∙ c.if-is_named.true in
-    each_named known c.args.shape.now.partitions shapes name c.args.offsets.now c.in_ok-times.times.items c.partitions-partitions.ensures.value
+    subst (λ (offsets : List ℕ). AreTimesEach known c.args.shape.now.partitions name offsets c.in_ok-times.times.items) c.of-offsets.ensures
+    (each_named known c.args.shape.now.partitions shapes name c.of-offsets.result c.in_ok-times.times.items c.partitions-partitions.ensures.value
     (λ offset here.
     let t = c.in_ok-times.ensures.times offset here in
-    (t.0, named known shapes name (offset ∷ []) c.loop-i.first i p c.loop-i-test.true c.index-partitions-i.is t.0 so t.1 (c.loop-i.invariant.1 offset), t.2))
+    (t.0, named known shapes name (offset ∷ []) c.loop-i.first i p c.loop-i-test.true c.index-partitions-i.is t.0 so t.1 (c.loop-i.invariant.1 offset), t.2)))
 
 pub returns-clause-times : goal.returns-clause-times
 returns-clause-times g c =

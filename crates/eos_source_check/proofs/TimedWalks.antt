@@ -5,10 +5,10 @@ use Rattle.std.proofs.lemmas.Grind.{flat_map-append}
 use Rattle.eos_evidence.specs.declared.segment.Segment.{Segment}
 use Rattle.eos_fold.specs.Fronts.{base_of}
 use Rattle.eos_sought.specs.declared.wanted.Standing.{Standing}
-use Rattle.eos_sought.specs.Places.{IsEnd, byte_after, offset_after}
-use Rattle.eos_sought.specs.Timed.{all_timed_by, AreTimesIn}
-use Rattle.eos_sought.specs.steps.Walks.{GoesOn, HasTimed}
+use Rattle.eos_sought.specs.Places.{IsEnd, GoesOn, byte_after, offset_after}
 use Rattle.eos_sought.proofs.BatchWalks.{byte_push, offset_push, run_push}
+use Rattle.eos_source_check.specs.Timed.{all_timed_by, AreTimesIn}
+use Rattle.eos_source_check.specs.steps.Rising.{HasTimed}
 
 pub begins : (bytes : List ℕ) (base : ℕ) (offsets : List ℕ) (next : ℕ) (times : List (ℕ × ℤ)) → next ≡ base → times ≡ [] → HasTimed bytes base offsets 0 next times
 begins bytes base offsets next times is none = record { all = []; run = tt; byte = refl; offset = is; are = none }

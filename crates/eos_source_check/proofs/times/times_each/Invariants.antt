@@ -2,7 +2,7 @@ use Rattle.std.proofs.Common.{◌≡◌, ℕ, [], ◌∷◌}
 use Rattle.eos_source.specs.Said.{known_by}
 use Rattle.eos_source_check.proofs.PassedAgain.{first_of}
 use Rattle.eos_source_check.proofs.TimesAgain.{IsAhead}
-use Rattle.eos_source_check.proofs.each.times_each.Given as goal
+use Rattle.eos_source_check.proofs.times.times_each.Given as goal
 
 abbrev pub invariant-loop-i : goal.invariant-loop-i
 invariant-loop-i g l =
