@@ -211,8 +211,8 @@ def scripts():
         for name, code in SWITCHES.items():
             yield ["--seed", seed, "--events", 200, "--switch", name], code
         for name, code in MISHAPS.items():
-            chain = ["--chain"] if name == "aborted-input" else []
-            yield ["--seed", seed, "--events", 200 if name != "aborted-input" else 600, *chain, "--mishap", name], code
+            chain = ["--chain", "--abort", 200] if name == "aborted-input" else []
+            yield ["--seed", seed, "--events", 200, *chain, "--mishap", name], code
     for seed in range(1, 1 + RANDOM):
         chance = random.Random(seed)
         words = ["--seed", seed, "--events", chance.randrange(50, 400), "--switch-at", chance.randrange(0, 50), "--no-tail"]
