@@ -127,13 +127,14 @@ def is_part(part, whole):
     """Whether the lines of a part are some of the whole's, in their order, each name of the part standing for one of the whole: searched depth
     first, since of two lines that are alike either may be the one."""
     names, left = {}, [10**6]
+    alike = [[place for place, line in enumerate(whole) if bare(line) == bare(mine)] for mine in part]
 
     def search(done, start):
         if done == len(part):
             return True
-        for place in range(start, len(whole)):
+        for place in alike[done]:
             left[0] -= 1
-            if left[0] < 0 or bare(part[done]) != bare(whole[place]):
+            if place < start or left[0] < 0:
                 continue
             pairs = [*zip(named_by(part[done]), named_by(whole[place])), *zip(made_by(part[done]), made_by(whole[place]))]
             if any(names.get(mine, theirs) != theirs for mine, theirs in pairs):
