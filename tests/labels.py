@@ -190,7 +190,8 @@ class Score:
                 self.missed.append("harmless")
             elif it["label"] == "mishap" and is_broken:
                 self.missed.append("a mishap beside a broken rule")
-            elif is_stopped:
+            elif is_stopped or (it["label"] == "mishap" and "--stop-anywhere" in self.words):
+                # at rest too, where the transaction with the mishap was given up and none came after it
                 self.missed.append("of what wasn't ended")
             else:
                 self.missed.append(f"unexplained {it.get('rule', it.get('mishap'))} beside {sorted(found)}")
