@@ -1,6 +1,6 @@
 -- Closes in ascending order, each once; and those of a log, batch by batch.
 use Rattle.std.proofs.Common.{◌≡◌, ℕ, zero, suc, ◌+◌, ◌<◌, ◌&&◌, true, false, Bool, List, [], ◌∷◌, ◌++◌, length, take, get_or, refl, sym, ap, subst, ◌∙◌, arith, inl, inr, IsPermutation, IsSorted, ℤ, append_assoc}
-use Rattle.std.specs.Prelude.{slice_get, Some}
+use Rattle.std.specs.Prelude.{slice_get, Option, Some}
 use Rattle.std.specs.List.{Contains, dedup}
 use Rattle.std.specs.List.Sorted.{IsStrictlySortedBy}
 use Rattle.std.specs.Cmp.{IsTotalOrder, IsEquivalence}
@@ -19,8 +19,7 @@ use Rattle.eos_batch.specs.declared.marker.Kind.TheVariants.{Commit, Abort}
 use Rattle.eos_batch.specs.contracts.marker.KindOrd.TheImpl.{ghosts as kind_order}
 use Rattle.eos_batch.specs.contracts.marker.KindPartialEq.TheImpl.{ghosts as kind_test}
 use Rattle.eos_fold.specs.Batches.{DataBatch}
-use Rattle.eos_fold.specs.Heads.{data_head}
-use Rattle.eos_fold.specs.declared.head.DataHead.{DataHead}
+use Rattle.eos_fold.specs.declared.entry.Ending.{Ending}
 use Rattle.eos_fold.specs.declared.close.Close.{Close}
 use Rattle.eos_fold.specs.Closes.{close_in, closes_in, rank_of, close_cmp}
 use Rattle.eos_fold.specs.contracts.close.CloseOrd.TheImpl.{ghosts as order}
@@ -156,9 +155,9 @@ append-nil : {X : Type 0} (xs : List X) → xs ++ [] ≡ xs
 append-nil [] = refl
 append-nil (x ∷ xs) = ap (λ ys. x ∷ ys) (append-nil xs)
 
-pub close_more : (bs : List DataBatch) (i j : ℕ) (b : DataBatch) (head : DataHead) (old new : List Close) → j ≡ i + 1 → slice_get bs i ≡ Some b → head ≡ data_head b → old ≡ closes_in (take i bs) → new ≡ old ++ close_in head.writer head.ending → new ≡ closes_in (take j bs)
-close_more bs i j b head old new next at is h n =
+pub close_more : (bs : List DataBatch) (i j : ℕ) (b : DataBatch) (told : Option (ℤ × ℤ) × Ending) (old new : List Close) → j ≡ i + 1 → slice_get bs i ≡ Some b → told ≡ (b.writer, b.ending) → old ≡ closes_in (take i bs) → new ≡ old ++ close_in told.0 told.1 → new ≡ closes_in (take j bs)
+close_more bs i j b told old new next at is h n =
     let step : j ≡ suc i = omega (arith, next) in
     let more : closes_in (take j bs) ≡ closes_in (take i bs) ++ close_in b.writer b.ending =
     ap (λ (k : ℕ). closes_in (take k bs)) step ∙ (ap closes_in (take_one bs i b at) ∙ (closes_in-append (take i bs) (b ∷ []) ∙ ap (λ (cs : List Close). closes_in (take i bs) ++ cs) (append-nil (close_in b.writer b.ending)))) in
-    n ∙ (ap (λ (d : DataHead). old ++ close_in d.writer d.ending) is ∙ (ap (λ (cs : List Close). cs ++ close_in b.writer b.ending) h ∙ sym more))
+    n ∙ (ap (λ (t : Option (ℤ × ℤ) × Ending). old ++ close_in t.0 t.1) is ∙ (ap (λ (cs : List Close). cs ++ close_in b.writer b.ending) h ∙ sym more))

@@ -6,6 +6,7 @@ pub mod Entries
 pub mod Indexed
 pub mod Alone
 pub mod Endings
+pub mod States
 pub mod Joins
 pub mod Pushes
 pub mod Summaries

@@ -28,15 +28,15 @@ impl Close {
     }
 }
 
-/// The close of a data batch, if its transaction has ended.
-fn close_of(head: &DataHead) -> Option<Close>
-    ensures { option_to_list result ≡ close_in head.now.writer head.now.ending }
+/// The close of a data batch of this writer, if its transaction has ended.
+fn close_of(writer: Option<(i64, i16)>, ending: Ending) -> Option<Close>
+    ensures { option_to_list result ≡ close_in writer ending }
 {
-    let (producer, epoch) = head.writer?;
+    let (producer, epoch) = writer?;
     let Ending::Ended {
         epoch: marker_epoch,
         kind,
-    } = head.ending
+    } = ending
     else {
         return None;
     };
@@ -48,6 +48,21 @@ fn close_of(head: &DataHead) -> Option<Close>
     })
 }
 
+/// Puts the close of a data batch of this writer at the end, if its transaction has ended.
+fn push_ended(
+    closes: &mut Vec<Close>,
+    writer: Option<(i64, i16)>,
+    ending: Ending,
+) -> Result<(), AllocError>
+    ensures { OnOk result (closes.new.items ≡ closes.old.items ++ close_in writer ending) }
+{
+    let Some(close) = close_of(writer, ending) else {
+        return Ok(());
+    };
+    closes.push(close)?;
+    Ok(())
+}
+
 /// Puts the close of the data batch with this head at the end, if its transaction has ended.
 ///
 /// # Errors
@@ -55,11 +70,7 @@ fn close_of(head: &DataHead) -> Option<Close>
 pub fn push_close(closes: &mut Vec<Close>, head: &DataHead) -> Result<(), AllocError>
     ensures { OnOk result (closes.new.items ≡ closes.old.items ++ close_in head.now.writer head.now.ending) }
 {
-    let Some(close) = close_of(head) else {
-        return Ok(());
-    };
-    closes.push(close)?;
-    Ok(())
+    push_ended(closes, head.writer(), head.ending())
 }
 
 /// The closes of a log's data batches, in the order of the log.
@@ -68,7 +79,8 @@ fn list_closes(alloc: Global, index: &LogIndex) -> Result<Vec<Close>, AllocError
 {
     let mut closes = Vec::new(alloc);
     for i in 0..index.len() {
-        push_close(&mut closes, &index.head(i))?;
+        let (writer, ending) = index.transaction(i);
+        push_ended(&mut closes, writer, ending)?;
     }
     Ok(closes)
 }

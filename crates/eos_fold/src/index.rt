@@ -4,12 +4,10 @@ ghost use Rattle.std.specs.Prelude.{◌≡◌, ◌≤◌, ◌<◌, ◌+◌, ◌+
 ghost use Rattle.eos_batch.specs.Answers.{Fails};
 ghost use Rattle.eos_batch.specs.Reading.{batch_at};
 ghost use Rattle.eos_fold.specs.Batches.{DataBatch, set_ending};
-ghost use Rattle.eos_fold.specs.Heads.{data_head};
 ghost use Rattle.eos_fold.specs.Indexed.{ReadsBatch};
 
 use crate::begins::{count_batches, find_batch, shift};
 use crate::entry::Ending;
-use crate::head::DataHead;
 use crate::segment::SegmentIndex;
 use bytes::Bytes;
 use eos_batch::{BatchFault, BatchHead};
@@ -105,13 +103,13 @@ impl LogIndex {
         count_batches(&self.segments, &self.begins)
     }
 
-    /// What the records of a data batch have in common.
-    pub fn head(&self, place: usize) -> DataHead
+    /// The producer id and epoch of a data batch, where it is transactional, and how its transaction ended.
+    pub fn transaction(&self, place: usize) -> (Option<(i64, i16)>, Ending)
         requires { place < length self.now.batches }
-        ensures { (b : DataBatch) × (slice_get self.now.batches place ≡ Some b) × (result ≡ data_head b) }
+        ensures { (b : DataBatch) × (slice_get self.now.batches place ≡ Some b) × (result ≡ (b.writer, b.ending)) }
     {
         let (segment, place) = find_batch(self.begins.as_slice(), place);
-        self.segments[segment].head(place)
+        self.segments[segment].transaction(place)
     }
 
     /// Says how the transaction of a data batch ended.

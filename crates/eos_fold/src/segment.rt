@@ -5,13 +5,11 @@ ghost use Rattle.eos_batch.specs.Answers.{Fails};
 ghost use Rattle.eos_batch.specs.Reading.{batch_at};
 ghost use Rattle.eos_fold.specs.declared.entry.Ending.TheVariants.{Plain, Waiting};
 ghost use Rattle.eos_fold.specs.Batches.{DataBatch, set_ending};
-ghost use Rattle.eos_fold.specs.Heads.{data_head};
 ghost use Rattle.eos_fold.specs.Items.{items_of};
 ghost use Rattle.eos_fold.specs.steps.Entries.{batches_in, IsSegmentIndex};
 ghost use Rattle.eos_fold.specs.steps.Indexed.{IsRead, TakesBatch};
 
 use crate::entry::{Ending, Entry, Source};
-use crate::head::DataHead;
 use crate::item::Item;
 use crate::items::ItemRef;
 use crate::walk::index_batch;
@@ -174,18 +172,13 @@ impl SegmentIndex {
         self.sources[place].ending = ending;
     }
 
-    /// What the records of a data batch have in common.
-    pub(crate) fn head(&self, place: usize) -> DataHead
+    /// The producer id and epoch of a data batch, where it is transactional, and how its transaction ended.
+    pub(crate) fn transaction(&self, place: usize) -> (Option<(i64, i16)>, Ending)
         requires { place < length self.now.batches }
-        ensures { (b : DataBatch) × (slice_get self.now.batches place ≡ Some b) × (result ≡ data_head b) }
+        ensures { (b : DataBatch) × (slice_get self.now.batches place ≡ Some b) × (result ≡ (b.writer, b.ending)) }
     {
         let source = self.sources[place];
-        DataHead {
-            offset: source.offset,
-            count: source.count as usize,
-            writer: source.writer,
-            ending: source.ending,
-        }
+        (source.writer, source.ending)
     }
 
     /// The data record at this place, lent.

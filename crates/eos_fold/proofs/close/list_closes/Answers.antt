@@ -6,7 +6,7 @@ use Rattle.eos_fold.proofs.ClosesOnce.{close_more}
 use Rattle.eos_fold.proofs.close.list_closes.Goals as goal
 
 pub loop-i-preserved : goal.loop-i-preserved
-loop-i-preserved c = let h = c.head.ensures in close_more c.args.index.now.batches c.loop-i.i _ h.0 c.head.result c.loop-i.closes.items c.push_close.new.closes.items (omega arith) h.1 h.2 c.loop-i.invariant c.in_ok-push_close.ensures
+loop-i-preserved c = let h = c.transaction-writer.ensures in close_more c.args.index.now.batches c.loop-i.i _ h.0 c.transaction-writer.result c.loop-i.closes.items c.push_ended.new.closes.items (omega arith) h.1 h.2 c.loop-i.invariant c.in_ok-push_ended.ensures
 
 pub returns : goal.returns
 returns c =

@@ -4,7 +4,7 @@ use Rattle.std.specs.List.{slice_get}
 use Rattle.eos_fold.specs.steps.Entries.{batch_in}
 use Rattle.eos_fold.specs.Views.{SegmentView}
 use Rattle.eos_fold.proofs.SegmentEntries.{source_at, batch_at_place}
-use Rattle.eos_fold.proofs.segment.SegmentIndex.head.Goals as goal
+use Rattle.eos_fold.proofs.segment.SegmentIndex.transaction.Goals as goal
 
 pub returns : goal.returns
 returns c =
@@ -13,5 +13,5 @@ returns c =
     let b = batch_at_place c.self.inside.bytes c.self.inside.next c.self.inside.sources.items c.self.inside.entries.items c.args.place c.index-source.result.now c.self.invariant at in (
       batch_in c.self.inside.bytes c.self.inside.entries.items c.index-source.result.now,
       ap (λ (s : SegmentView). slice_get s.batches c.args.place) (sym c.self.view_is) ∙ b.0,
-      rw b.1 refl,
+      refl,
     )
