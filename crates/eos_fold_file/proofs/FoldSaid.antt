@@ -6,8 +6,7 @@ use Rattle.eos_batch.specs.declared.record.Record.{Record}
 use Rattle.eos_claims.specs.Headers.{claim_of}
 use Rattle.eos_evidence.specs.declared.segment.Segment.{Segment}
 use Rattle.eos_reading.proofs.ClaimHeaders.{back}
-use Rattle.eos_reading.specs.declared.output.KeptOutput.{KeptOutput}
-use Rattle.eos_reading.specs.Outputs.{kept_output, claim_kept}
+use Rattle.eos_reading.specs.Outputs.{KeptOutput, kept_output, claim_kept}
 use Rattle.eos_reading.specs.Records.{ReadsBack}
 use Rattle.eos_reading.proofs.ExactClaims.{exact_claim}
 use Rattle.eos_fold_file.specs.declared.claim.FoldText.{FoldText}

@@ -22,8 +22,7 @@ use Rattle.eos_reading.specs.Heads.{HasHeads}
 use Rattle.eos_reading.specs.Kept.{kept_in, kept_of}
 use Rattle.eos_reading.specs.Seals.{AreSeals, entries_of}
 use Rattle.eos_reading.proofs.KeptLists.{taken_back}
-use Rattle.eos_reading.specs.declared.output.KeptOutput.{KeptOutput}
-use Rattle.eos_reading.specs.Outputs.{kept_output}
+use Rattle.eos_reading.specs.Outputs.{KeptOutput, kept_output}
 use Rattle.eos_fold_file.specs.declared.file.FoldFile.{FoldFile}
 use Rattle.eos_fold_file.specs.declared.file.FoldKept.{FoldKept}
 use Rattle.eos_fold_file.specs.declared.file.FoldKept.TheVariants.{Presence, Claims, Texts}

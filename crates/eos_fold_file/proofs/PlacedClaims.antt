@@ -13,8 +13,7 @@ use Rattle.eos_claims.specs.declared.claim.Claim.{Claim}
 use Rattle.eos_claims.specs.Headers.{claim_of}
 use Rattle.eos_reading.specs.Kept.{kept_from, kept_in, kept_of}
 use Rattle.eos_reading.specs.NameIndexes.{index_of}
-use Rattle.eos_reading.specs.declared.output.KeptOutput.{KeptOutput}
-use Rattle.eos_reading.specs.Outputs.{output_at, kept_output}
+use Rattle.eos_reading.specs.Outputs.{KeptOutput, output_at, kept_output}
 use Rattle.eos_fold_file.specs.Records.{is_placed}
 
 place_within : (names : List (List ℕ)) (name : List ℕ) (k : ℕ) → index_of names name ≡ Some k → k < length names

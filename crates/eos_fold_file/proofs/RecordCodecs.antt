@@ -4,8 +4,7 @@ use Rattle.std.specs.Int.{w8}
 use Rattle.eos_wire.specs.Numbers.{i8_text}
 use Rattle.eos_wire.specs.Writing.{varlong_of}
 use Rattle.eos_claims.specs.declared.claim.Claim.{Claim}
-use Rattle.eos_reading.specs.declared.output.KeptOutput.{KeptOutput}
-use Rattle.eos_reading.specs.declared.output.KeptOutput.TheVariants.{Unclaimed, Asked, Foreign}
+use Rattle.eos_reading.specs.Outputs.{KeptOutput, Unclaimed, Asked, Foreign}
 use Rattle.eos_fold_file.specs.declared.claim.ClaimNumbers.{ClaimNumbers}
 use Rattle.eos_fold_file.specs.Legal.{AreClaimNumbers, IsLegalClaim, IsLegalOutput, IsLegalOptionalClaim}
 use Rattle.eos_fold_file.specs.Numbers.{u64_text, bytes_text, kind_from, i32_from, u64_from, u32_from, bytes_from}

@@ -6,8 +6,7 @@ use Rattle.eos_batch.specs.Real.{IsReal}
 use Rattle.eos_claims.specs.declared.claim.Claim.{Claim}
 use Rattle.eos_fold.specs.declared.stop.Stop.{Stop}
 use Rattle.eos_fold.specs.declared.stop.Stop.TheVariants.{AtEnd, NoBatch, Elsewhere}
-use Rattle.eos_reading.specs.declared.output.KeptOutput.{KeptOutput}
-use Rattle.eos_reading.specs.declared.output.KeptOutput.TheVariants.{Unclaimed, Asked, Foreign}
+use Rattle.eos_reading.specs.Outputs.{KeptOutput, Unclaimed, Asked, Foreign}
 use Rattle.eos_fold_file.specs.declared.claim.ClaimNumbers.{ClaimNumbers}
 use Rattle.eos_fold_file.specs.declared.claim.FoldText.{FoldText}
 use Rattle.eos_reading.specs.declared.epoch.EpochEntry.{EpochEntry}

@@ -7,7 +7,7 @@ use Rattle.eos_base.specs.Fallible.{◌>>=◌, must}
 use Rattle.eos_wire.specs.Crc.{crc32c_of}
 use Rattle.eos_wire.specs.Numbers.{bytes_at, u32_at}
 use Rattle.eos_fold.specs.declared.stop.Stop.{Stop}
-use Rattle.eos_reading.specs.declared.output.KeptOutput.{KeptOutput}
+use Rattle.eos_reading.specs.Outputs.{KeptOutput}
 use Rattle.eos_reading.specs.declared.wanted.Wanted.{Wanted}
 use Rattle.eos_reading.specs.declared.wanted.Wanted.TheVariants as wants
 use Rattle.eos_reading.specs.declared.epoch.EpochEntry.{EpochEntry}

@@ -5,8 +5,7 @@ use Rattle.eos_base.specs.Fallible.{◌>>=◌}
 use Rattle.eos_wire.specs.Numbers.{i8_text}
 use Rattle.eos_wire.specs.Writing.{varlong_of}
 use Rattle.eos_claims.specs.declared.claim.Claim.{Claim}
-use Rattle.eos_reading.specs.declared.output.KeptOutput.{KeptOutput}
-use Rattle.eos_reading.specs.declared.output.KeptOutput.TheVariants.{Unclaimed, Asked, Foreign}
+use Rattle.eos_reading.specs.Outputs.{KeptOutput, Unclaimed, Asked, Foreign}
 use Rattle.eos_fold_file.specs.declared.fault.FoldFault.{FoldFault}
 use Rattle.eos_fold_file.specs.declared.fault.FoldFault.TheVariants as faults
 use Rattle.eos_fold_file.specs.declared.claim.ClaimNumbers.{ClaimNumbers}

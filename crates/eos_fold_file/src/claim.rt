@@ -22,7 +22,7 @@ use crate::number::{
 };
 use bytes::Bytes;
 use eos_claims::{Claim, ClaimRef};
-use eos_reading::{BoxedClaim, KeptOutput};
+use eos_reading::{AskedClaim, BoxedClaim, KeptOutput, OutputRef};
 use eos_wire::{Cursor, write_i8};
 use std::alloc::{AllocError, Global};
 
@@ -90,18 +90,19 @@ fn read_claim(rest: &mut Cursor<'_>) -> Result<Claim, FoldFault>
 // ---- of an output
 
 #[tactic(auto, unfolding(crate::specs::Records::asked_from))]
-fn read_asked(rest: &mut Cursor<'_>) -> Result<KeptOutput, FoldFault>
+fn read_asked(alloc: Global, rest: &mut Cursor<'_>) -> Result<KeptOutput, FoldFault>
     ensures { Gives result rest.new (asked_from rest.old) }
 {
     let topic = read_u64(rest)?;
     let numbers = read_numbers(rest)?;
-    Ok(KeptOutput::Asked {
+    let claim = AskedClaim {
+        topic: topic as usize,
         partition: numbers.partition,
+        offset: numbers.offset,
         output: numbers.output,
         of: numbers.of,
-        topic: topic as usize,
-        offset: numbers.offset,
-    })
+    };
+    Ok(KeptOutput::asked(alloc, claim)?)
 }
 
 /// A copy of a claim, in a box.
@@ -123,7 +124,7 @@ fn read_foreign(alloc: Global, rest: &mut Cursor<'_>) -> Result<KeptOutput, Fold
     ensures { Gives result rest.new (foreign_from rest.old) }
 {
     let claim = read_claim(rest)?;
-    Ok(KeptOutput::Foreign(boxed(alloc, &claim)?))
+    Ok(KeptOutput::foreign(boxed(alloc, &claim)?))
 }
 
 #[tactic(auto, unfolding(crate::specs::Records::output_from))]
@@ -131,8 +132,8 @@ fn read_output(alloc: Global, rest: &mut Cursor<'_>) -> Result<KeptOutput, FoldF
     ensures { Gives result rest.new (output_from rest.old) }
 {
     match read_kind(rest)? {
-        0 => Ok(KeptOutput::Unclaimed),
-        1 => read_asked(rest),
+        0 => Ok(KeptOutput::unclaimed()),
+        1 => read_asked(alloc, rest),
         2 => read_foreign(alloc, rest),
         _ => Err(FoldFault::Record),
     }
@@ -158,10 +159,10 @@ fn write_lent(out: &mut Vec<u8>, claim: ClaimRef<'_>) -> Result<(), AllocError>
 fn is_placed(kept: &KeptOutput, topics: usize) -> bool
     ensures { result ≡ is_placed topics kept.now }
 {
-    match kept {
-        KeptOutput::Unclaimed => true,
-        KeptOutput::Asked { topic, .. } => *topic < topics,
-        KeptOutput::Foreign(_) => true,
+    match kept.view() {
+        OutputRef::Unclaimed => true,
+        OutputRef::Asked(claim) => claim.topic < topics,
+        OutputRef::Foreign(_) => true,
     }
 }
 
@@ -181,28 +182,22 @@ fn write_output(out: &mut Vec<u8>, kept: &KeptOutput) -> Result<(), AllocError>
     ensures text { OnOk result (out.new.items ≡ out.old.items ++ output_text kept.now) }
     ensures fit { OnOk result (IsLegalOutput kept.now) }
 {
-    match kept {
-        KeptOutput::Unclaimed => write_i8(out, 0),
-        KeptOutput::Asked {
-            partition,
-            output,
-            of,
-            topic,
-            offset,
-        } => {
+    match kept.view() {
+        OutputRef::Unclaimed => write_i8(out, 0),
+        OutputRef::Asked(claim) => {
             write_i8(out, 1)?;
-            write_u64(out, *topic as u64)?;
+            write_u64(out, claim.topic as u64)?;
             let numbers = ClaimNumbers {
-                partition: *partition,
-                offset: *offset,
-                output: *output,
-                of: *of,
+                partition: claim.partition,
+                offset: claim.offset,
+                output: claim.output,
+                of: claim.of,
             };
             write_numbers(out, numbers)
         }
-        KeptOutput::Foreign(claim) => {
+        OutputRef::Foreign(claim) => {
             write_i8(out, 2)?;
-            write_lent(out, claim.view())
+            write_lent(out, claim)
         }
     }
 }

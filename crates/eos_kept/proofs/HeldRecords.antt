@@ -24,8 +24,7 @@ use Rattle.eos_reading.specs.Wanted.{wanted_item, wanted_headers}
 use Rattle.eos_reading.proofs.SameThrough.{pairs_same}
 use Rattle.eos_reading.proofs.WantedItems.{rises_kept}
 use Rattle.eos_claims.specs.declared.claim.Claim.{Claim}
-use Rattle.eos_reading.specs.declared.output.KeptOutput.{KeptOutput}
-use Rattle.eos_reading.specs.Outputs.{claim_kept}
+use Rattle.eos_reading.specs.Outputs.{KeptOutput, claim_kept}
 use Rattle.eos_reading.specs.Records.{record_of, wanted_record, ReadsBack}
 use Rattle.eos_kept.specs.Items.{items_at, items_under, Fits}
 use Rattle.eos_kept.specs.Parts.{AllKept}

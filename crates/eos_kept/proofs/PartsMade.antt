@@ -46,8 +46,7 @@ use Rattle.eos_claims.specs.Headers.{claim_of}
 use Rattle.eos_reading.specs.declared.wanted.Wanted.{Wanted}
 use Rattle.eos_reading.specs.declared.wanted.Wanted.TheVariants as wants
 use Rattle.eos_reading.specs.Wanted.{wanted_item}
-use Rattle.eos_reading.specs.declared.output.KeptOutput.{KeptOutput}
-use Rattle.eos_reading.specs.Outputs.{kept_output, claim_kept}
+use Rattle.eos_reading.specs.Outputs.{KeptOutput, kept_output, claim_kept}
 use Rattle.eos_reading.specs.Records.{record_of, wanted_record, ReadsBack}
 use Rattle.eos_reading.proofs.ExactClaims.{exact_claim}
 use Rattle.eos_reading.proofs.ClaimHeaders.{back}

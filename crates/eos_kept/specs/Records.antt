@@ -2,8 +2,7 @@
 use Rattle.std.specs.Prelude.{◌≡◌, ℕ, List, None, map, All, ⊤}
 use Rattle.eos_batch.specs.declared.record.Record.{Record}
 use Rattle.eos_claims.specs.Headers.{claim_of}
-use Rattle.eos_reading.specs.declared.output.KeptOutput.{KeptOutput}
-use Rattle.eos_reading.specs.Outputs.{claim_kept}
+use Rattle.eos_reading.specs.Outputs.{KeptOutput, claim_kept}
 use Rattle.eos_reading.specs.Records.{record_of, ReadsBack}
 use Rattle.eos_reading.specs.Wanted.{wanted_headers}
 use Rattle.eos_kept.specs.declared.records.Records.{Records}

@@ -4,8 +4,8 @@
 //! too. Along a log's batches the head of each is kept, and of each data record what is wanted; the
 //! bytes are forgotten.
 //!
-//! In memory the record of an output costs 32 bytes where its claim names one of the topics that are asked for, and some 200
-//! more where it names another one.
+//! In memory the record of an output costs 16 bytes where its claim names one of the topics that are asked for, by small numbers,
+//! some 50 more where one is great, and some 200 more where it names another topic.
 #![tactic(auto)]
 
 mod batch;
@@ -30,7 +30,7 @@ pub use batch::keep_batches;
 pub use boxed::BoxedClaim;
 pub use epoch::{EpochEntry, append_entries, is_change};
 pub use nothing::Nothing;
-pub use output::KeptOutput;
+pub use output::{AskedClaim, KeptOutput, OutputRef};
 pub use outputs::Outputs;
 pub use placed::Placed;
 pub use reading::Reading;

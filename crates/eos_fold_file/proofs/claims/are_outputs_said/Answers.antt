@@ -1,6 +1,5 @@
 use Rattle.std.proofs.Common.{◌≡◌, true, subst, rules}
-use Rattle.eos_reading.specs.declared.output.KeptOutput.{KeptOutput}
-use Rattle.eos_reading.specs.Outputs.{claim_kept}
+use Rattle.eos_reading.specs.Outputs.{KeptOutput, claim_kept}
 use Rattle.eos_reading.specs.Records.{ReadsBack}
 use Rattle.eos_fold_file.proofs.EachSoFar.{one_more, at_end}
 use Rattle.eos_fold_file.proofs.claims.are_outputs_said.Goals as goal

@@ -1,6 +1,5 @@
 use Rattle.std.proofs.Common.{subst}
-use Rattle.eos_reading.specs.declared.output.KeptOutput.{KeptOutput}
-use Rattle.eos_reading.specs.Outputs.{claim_kept}
+use Rattle.eos_reading.specs.Outputs.{KeptOutput, claim_kept}
 use Rattle.eos_reading.specs.Records.{ReadsBack}
 use Rattle.eos_kept.specs.Records.{SaysClaim}
 use Rattle.eos_kept.specs.KeptRuns.{HasClaims}
