@@ -4,7 +4,7 @@ use Rattle.std.specs.List.{slice_get}
 use Rattle.std.specs.Prelude.{min}
 use Rattle.std.proofs.lemmas.List.{take_min, drop_min}
 use Rattle.eos_batch.specs.declared.record.Record.{Record}
-use Rattle.eos_fold.specs.declared.head.DataHead.{DataHead}
+use Rattle.eos_fold.specs.Heads.{DataHead}
 use Rattle.eos_fold.proofs.ListPlaces.{get_drop, get_take}
 use Rattle.eos_kept.specs.Items.{item_at, items_at, items_under}
 use Rattle.eos_kept.proofs.HeadPlaces.{at_get}

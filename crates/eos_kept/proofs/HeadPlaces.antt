@@ -4,7 +4,7 @@ use Rattle.std.specs.List.{slice_get}
 use Rattle.std.proofs.lemmas.List.{length-append, length-take, length-take-le}
 use Rattle.std.proofs.lemmas.Option.{slice_get_within}
 use Rattle.eos_batch.specs.declared.record.Record.{Record}
-use Rattle.eos_fold.specs.declared.head.DataHead.{DataHead}
+use Rattle.eos_fold.specs.Heads.{DataHead}
 use Rattle.eos_fold.proofs.ListPlaces.{get_left, get_right_at, get_drop, get_take}
 use Rattle.eos_kept.specs.Items.{item_at, items_at, items_under}
 use Rattle.eos_kept.specs.steps.Counts.{count_in}

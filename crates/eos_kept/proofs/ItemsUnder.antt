@@ -3,7 +3,7 @@ use Rattle.std.proofs.Common.{◌≡◌, ℕ, zero, suc, ◌+◌, ◌-◌, ◌<�
 use Rattle.std.specs.List.{slice_get}
 use Rattle.std.proofs.lemmas.List.{drop_all}
 use Rattle.eos_batch.specs.declared.record.Record.{Record}
-use Rattle.eos_fold.specs.declared.head.DataHead.{DataHead}
+use Rattle.eos_fold.specs.Heads.{DataHead}
 use Rattle.eos_fold.proofs.ListPlaces.{drop_get}
 use Rattle.eos_kept.specs.Items.{item_at, items_at, items_under}
 

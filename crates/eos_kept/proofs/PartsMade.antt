@@ -12,7 +12,7 @@ use Rattle.eos_touch.specs.declared.fault.PartitionFault.{PartitionFault}
 use Rattle.eos_touch.specs.declared.fault.PartitionFaultKind.{PartitionFaultKind}
 use Rattle.eos_touch.specs.declared.fault.PartitionFaultKind.TheVariants.{Pair}
 use Rattle.eos_touch.specs.Front.{ContinuesFrom}
-use Rattle.eos_fold.specs.declared.head.DataHead.{DataHead}
+use Rattle.eos_fold.specs.Heads.{DataHead}
 use Rattle.eos_fold.specs.declared.item.Item.{Item}
 use Rattle.eos_fold.specs.Batches.{DataBatch}
 use Rattle.eos_fold.specs.Items.{items_of}

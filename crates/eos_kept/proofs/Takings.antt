@@ -4,7 +4,7 @@ use Rattle.std.specs.List.{All}
 use Rattle.std.specs.Ordering.{int_eq, int_cmp}
 use Rattle.std.specs.BTreeMap.{get}
 use Rattle.eos_batch.specs.declared.batch.Batch.{Batch}
-use Rattle.eos_fold.specs.declared.head.DataHead.{DataHead}
+use Rattle.eos_fold.specs.Heads.{DataHead}
 use Rattle.eos_fold.specs.Batches.{DataBatch}
 use Rattle.eos_fold.specs.declared.ends.Ends.{Ends}
 use Rattle.eos_fold.specs.declared.fault.Fault.{Fault}

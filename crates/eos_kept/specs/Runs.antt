@@ -5,9 +5,8 @@ use Rattle.eos_batch.specs.declared.batch.Batch.{Batch}
 use Rattle.eos_batch.specs.declared.head.BatchHead.{BatchHead}
 use Rattle.eos_batch.specs.Heads.{head_of}
 use Rattle.eos_batch.specs.Rules.{IsProducerRight}
-use Rattle.eos_fold.specs.declared.head.DataHead.{DataHead}
 use Rattle.eos_fold.specs.Batches.{DataBatch}
-use Rattle.eos_fold.specs.Heads.{data_head}
+use Rattle.eos_fold.specs.Heads.{DataHead, data_head}
 use Rattle.eos_fold.specs.declared.batch_summary.BatchSummary.{BatchSummary}
 use Rattle.eos_fold.specs.Settling.{data_in}
 use Rattle.eos_fold.specs.Tables.{ends_at}

@@ -2,7 +2,7 @@
 
 ghost use Rattle.std.specs.Prelude.{◌≡◌, ◌<◌, ◌≤◌, ◌++◌, [], List, All, length, take, drop, slice_get, Some, IfNone, IfSome};
 ghost use Rattle.eos_batch.specs.declared.record.Record.{Record};
-ghost use Rattle.eos_fold.specs.declared.head.DataHead.{DataHead};
+ghost use Rattle.eos_fold.specs.Heads.{DataHead};
 ghost use Rattle.eos_fold.specs.declared.item.Item.{Item};
 ghost use Rattle.eos_kept.specs.Items.{items_under, Fits};
 ghost use Rattle.eos_kept.specs.Looks.{IsLook};
@@ -78,7 +78,7 @@ fn empty_before(heads: &[DataHead]) -> usize
     ensures inside { (h : DataHead) → slice_get heads.now result ≡ Some h → 0 < h.count }
 {
     for i in 0..heads.len() {
-        if heads[i].count > 0 {
+        if heads[i].count() > 0 {
             return i;
         }
     }
@@ -101,9 +101,9 @@ impl<'a> KeptBatch<'a> {
         let head = self.head;
         let kept = self.records.view(self.passed + i);
         Look {
-            offset: head.offset + i as u64,
-            fate: head.ending.fate(),
-            writer: head.writer,
+            offset: head.offset() + i as u64,
+            fate: head.fate(),
+            writer: head.writer(),
             claim: kept.claim(),
         }
     }
@@ -137,7 +137,7 @@ impl<'a> KeptBatches<'a> {
         let first = empty_before(self.heads);
         let (_, heads) = self.heads.split_at(first);
         let (head, rest) = heads.split_first()?;
-        let len = head.count.min(left);
+        let len = head.count().min(left);
         self.heads = rest;
         self.passed = passed + len;
         Some(KeptBatch {

@@ -2,7 +2,7 @@
 
 ghost use Rattle.std.specs.Prelude.{◌≡◌, ◌<◌, [], ◌∷◌, List, All, drop, slice_get, Some, IfNone, IfSome};
 ghost use Rattle.eos_batch.specs.declared.record.Record.{Record};
-ghost use Rattle.eos_fold.specs.declared.head.DataHead.{DataHead};
+ghost use Rattle.eos_fold.specs.Heads.{DataHead};
 ghost use Rattle.eos_kept.specs.Items.{items_under, Fits};
 ghost use Rattle.eos_kept.specs.Records.{records_in, ReadBack, SayClaims};
 
@@ -45,7 +45,7 @@ fn skip_ended(heads: &[DataHead], head: usize, place: usize) -> (usize, usize)
     let len = heads.len();
     let mut place = place;
     for i in head..len {
-        if place < heads[i].count {
+        if place < heads[i].count() {
             return (i, place);
         }
         place = 0;

@@ -5,12 +5,12 @@ ghost use Rattle.eos_batch.specs.declared.batch.Batch.{Batch};
 ghost use Rattle.eos_batch.specs.Heads.{head_of};
 ghost use Rattle.eos_fold.specs.Batches.{DataBatch, set_ending};
 ghost use Rattle.eos_fold.specs.steps.Endings.{set_endings};
-ghost use Rattle.eos_fold.specs.Settling.{data_in, settled, waiting_in};
+ghost use Rattle.eos_fold.specs.Settling.{data_in, ended, settled, waiting_in};
 ghost use Rattle.eos_fold.specs.steps.Summaries.{only};
 ghost use Rattle.eos_kept.specs.Runs.{heads_of};
 
 use eos_batch::BatchHead;
-use eos_fold::{DataHead, EndMark, Ending, Indexes, ended};
+use eos_fold::{DataHead, EndMark, Indexes};
 use std::alloc::{AllocError, Global};
 use std::marker::Model;
 
@@ -33,20 +33,7 @@ impl Model for Heads {
 pub(crate) fn data_head(head: &BatchHead) -> DataHead
     ensures { (b : Batch) (size : ℕ) → head.now ≡ head_of b size → head.now.is_control ≡ false → heads_of (data_in (b ∷ [])) ≡ result ∷ [] }
 {
-    let (writer, ending) = if head.is_transactional {
-        let ending = Ending::Waiting {
-            producer: head.producer,
-        };
-        (Some((head.producer, head.epoch)), ending)
-    } else {
-        (None, Ending::Plain)
-    };
-    DataHead {
-        offset: head.offset,
-        count: head.count as usize,
-        writer,
-        ending,
-    }
+    DataHead::of(head)
 }
 
 impl Heads {
@@ -103,25 +90,25 @@ impl Heads {
         };
     }
 
-    /// Gives the batch at this place this ending.
-    fn set_ending(&mut self, place: usize, ending: Ending)
+    /// Ends the transaction of the batch at this place by this marker.
+    fn set_ending(&mut self, place: usize, marker: EndMark)
         requires { place < length self.old.list }
-        ensures set { (ds : List DataBatch) → self.old.list ≡ heads_of ds → self.new.list ≡ heads_of (set_ending ending place ds) }
+        ensures set { (ds : List DataBatch) → self.old.list ≡ heads_of ds → self.new.list ≡ heads_of (set_ending (ended marker) place ds) }
         ensures all { length self.new.list ≡ length self.old.list }
         ensures room { self.new.room ≡ self.old.room }
     {
-        self.items[place].ending = ending;
+        self.items[place].end(marker);
     }
 
-    /// Gives the batches at these places this ending.
-    fn set_endings(&mut self, places: &Indexes, ending: Ending)
+    /// Ends the transactions of the batches at these places by this marker.
+    fn set_endings(&mut self, places: &Indexes, marker: EndMark)
         requires { All (λ place. place < length self.old.list) places.now.list }
-        ensures set { (ds : List DataBatch) → self.old.list ≡ heads_of ds → self.new.list ≡ heads_of (set_endings ending places.now.list ds) }
+        ensures set { (ds : List DataBatch) → self.old.list ≡ heads_of ds → self.new.list ≡ heads_of (set_endings (ended marker) places.now.list ds) }
         ensures all { length self.new.list ≡ length self.old.list }
         ensures room { self.new.room ≡ self.old.room }
     {
         for place in places.as_slice() {
-            self.set_ending(*place, ending);
+            self.set_ending(*place, marker);
         }
     }
 
@@ -134,7 +121,7 @@ impl Heads {
         ensures room { self.new.room ≡ self.old.room }
     {
         if let Some(marker) = marker {
-            self.set_endings(places, ended(marker));
+            self.set_endings(places, marker);
         }
     }
 }

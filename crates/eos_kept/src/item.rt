@@ -53,9 +53,9 @@ impl<'a> KeptItem<'a> {
         ensures { result ≡ item_at head.now place kept.entry }
     {
         KeptItem {
-            offset: head.offset + place as u64,
-            fate: head.ending.fate(),
-            writer: head.writer,
+            offset: head.offset() + place as u64,
+            fate: head.fate(),
+            writer: head.writer(),
             kept,
         }
     }

@@ -1,7 +1,7 @@
 //! The data records of a partition's log with what is kept of them, as a list.
 
 ghost use Rattle.std.specs.Prelude.{◌≡◌, ◌<◌, ◌+◌, All, length, take, slice_get, Some, IfOk, ◌==◌};
-ghost use Rattle.eos_fold.specs.declared.head.DataHead.{DataHead};
+ghost use Rattle.eos_fold.specs.Heads.{DataHead};
 ghost use Rattle.eos_kept.specs.Items.{items_under, Fits};
 ghost use Rattle.eos_kept.specs.Records.{records_in, ReadBack, SayClaims};
 ghost use Rattle.eos_kept.specs.steps.Counts.{count_in};
@@ -43,7 +43,7 @@ fn find_head(heads: &[DataHead], place: usize) -> (usize, usize)
 {
     let mut left = place;
     for i in 0..heads.len() {
-        let count = heads[i].count;
+        let count = heads[i].count();
         if left < count {
             return (i, left);
         }

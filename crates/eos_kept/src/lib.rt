@@ -6,7 +6,7 @@
 //! shows what stands around a fault asks for the first; a verdict needs the second alone.
 //!
 //! A segment is read chunk by chunk; what was taken of a chunk is forgotten. In memory a data record costs what is kept of
-//! it, a data batch 56 bytes (its head), and 8 more as long as it is transactional and waits for its end marker, a producer
+//! it, a data batch 32 bytes (its head), and 8 more as long as it is transactional and waits for its end marker, a producer
 //! id some 150, and an end marker 24. While a segment is read, a chunk's heads and the bytes of a batch that isn't whole yet
 //! are held too.
 #![tactic(auto)]

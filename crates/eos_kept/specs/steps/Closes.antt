@@ -1,7 +1,7 @@
 -- The closes, read off the heads of data batches.
 use Rattle.std.specs.Prelude.{List}
 use Rattle.std.specs.List.{flat_map}
-use Rattle.eos_fold.specs.declared.head.DataHead.{DataHead}
+use Rattle.eos_fold.specs.Heads.{DataHead}
 use Rattle.eos_fold.specs.declared.close.Close.{Close}
 use Rattle.eos_fold.specs.Closes.{close_in}
 

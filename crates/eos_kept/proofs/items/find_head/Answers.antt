@@ -1,28 +1,24 @@
-use Rattle.std.proofs.Common.{◌≡◌, ℕ, ◌∙◌, length, take, slice_index_or, None, ap, arith}
-use Rattle.std.proofs.lemmas.Option.{slice_get-get_or}
+use Rattle.std.proofs.Common.{◌≡◌, ℕ, ◌∙◌, length, take, refl, ap, arith}
+use Rattle.std.proofs.lemmas.Option.{slice_get_read}
 use Rattle.std.proofs.Math.Seq.{take-length}
-use Rattle.eos_fold.specs.declared.entry.Ending.TheVariants.{Plain}
-use Rattle.eos_fold.specs.declared.head.DataHead.{DataHead}
 use Rattle.eos_kept.specs.steps.Counts.{count_in}
 use Rattle.eos_kept.proofs.HeadPlaces.{count_more}
 use Rattle.eos_kept.proofs.items.find_head.Goals as goal
-
--- what an index past the end would give
-abbrev none : DataHead
-none = record { offset = 0; count = 0; writer = None; ending = Plain }
 
 pub loop-i-preserved : goal.loop-i-preserved
 loop-i-preserved c =
     let heads = c.args.heads.now in
     let i = c.loop-i.i in
-    let more = count_more heads i (slice_index_or heads i none) (slice_get-get_or heads i none c.loop-i-test.true) in
-    omega (arith, more, c.loop-i.invariant, c.if-left-count.false)
+    let h = c.index-heads-i.result in
+    let more = count_more heads i h (slice_get_read heads (length heads) i h refl c.loop-i-test.true c.index-heads-i.is) in
+    omega (arith, more, c.loop-i.invariant, c.count-count.ensures, c.if-left-count.false)
 
 pub returns-then-left-count : goal.returns-then-left-count
 returns-then-left-count c =
     let heads = c.args.heads.now in
     let i = c.loop-i.i in
-    (slice_index_or heads i none, slice_get-get_or heads i none c.loop-i-test.true, c.if-left-count.true, c.loop-i.invariant)
+    let h = c.index-heads-i.result in
+    (h, slice_get_read heads (length heads) i h refl c.loop-i-test.true c.index-heads-i.is, omega (arith, c.count-count.ensures, c.if-left-count.true), c.loop-i.invariant)
 
 pub unreachable-requires : goal.unreachable-requires
 unreachable-requires c =

@@ -1,7 +1,7 @@
 use Rattle.std.proofs.Common.{◌≡◌, ℕ, List, [], refl, sym, subst}
 use Rattle.eos_fold.specs.Parts.{PartLog, Rises, AreCloses}
 use Rattle.eos_fold.specs.Standing.{IsPartitionFault, AreOf}
-use Rattle.eos_fold.specs.declared.head.DataHead.{DataHead}
+use Rattle.eos_fold.specs.Heads.{DataHead}
 use Rattle.eos_kept.specs.steps.Closes.{closes_under}
 use Rattle.eos_kept.specs.steps.Fronts.{IsChecked}
 use Rattle.eos_fold.specs.declared.item.Item.{Item}

@@ -1,4 +1,4 @@
-use Rattle.std.proofs.Common.{◌≡◌, ◌<◌, List, length, take, drop, ap, sym, ◌∙◌, refl, arith}
+use Rattle.std.proofs.Common.{◌≡◌, ◌+◌, ◌<◌, List, length, take, drop, ap, sym, ◌∙◌, arith}
 use Rattle.std.specs.List.{slice_get}
 use Rattle.std.proofs.lemmas.List.{length-take-le, length-drop}
 use Rattle.eos_fold.specs.declared.item.Item.{Item}
@@ -42,5 +42,5 @@ returns c =
     let got = batch_get b.head.now recs b.passed b.len i r lt c.view-kept.ensures in (
       item_at b.head.now i r,
       ap (λ (is : List Item). slice_get is i) (sym c.self.view_is) ∙ got,
-      record { offset = refl; fate = c.fate.ensures; writer = refl; claim = c.claim.ensures },
+      record { offset = ap (λ n. n + i) c.offset.ensures; fate = c.fate.ensures; writer = c.writer.ensures; claim = c.claim.ensures },
     )

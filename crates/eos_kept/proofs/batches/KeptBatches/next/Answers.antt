@@ -3,7 +3,7 @@ use Rattle.std.proofs.lemmas.List.{length-drop, drop-drop, length-take-le}
 use Rattle.std.proofs.lemmas.List.Elements.{All-head, All-tail, All-drop}
 use Rattle.std.specs.List.{All}
 use Rattle.eos_batch.specs.declared.record.Record.{Record}
-use Rattle.eos_fold.specs.declared.head.DataHead.{DataHead}
+use Rattle.eos_fold.specs.Heads.{DataHead}
 use Rattle.eos_kept.specs.Items.{items_at, items_under, Fits}
 use Rattle.eos_kept.specs.Records.{records_in}
 use Rattle.eos_kept.proofs.ItemsUnder.{used_up}
@@ -49,7 +49,7 @@ returns-clause-some c =
     let k = c.empty_before-first.result in
     let here : drop k b.heads.now ≡ h ∷ hs = sym c.split_at.ensures.back ∙ c.in_ok-head.ensures.cases.0 in
     let left : c.saturating_sub-left.result ≡ length rs = omega (arith, c.saturating_sub-left.ensures, c.len.ensures, length-drop b.passed recs) in
-    let count : n ≡ min h.count (length rs) = c.min-len.ensures ∙ ap (min h.count) left in
+    let count : n ≡ min h.count (length rs) = c.min-len.ensures ∙ (ap (λ m. min m c.saturating_sub-left.result) c.count.ensures ∙ ap (min h.count) left) in
     let some : 0 < h.count = c.empty_before-first.ensures.inside h (head_behind b.heads.now k h hs here) in
     let size : length (take n rs) ≡ n = length-take-le n rs (omega (arith, count)) in (
       sym c.self.view_is

@@ -1,7 +1,7 @@
-use Rattle.std.proofs.Common.{◌≡◌, ◌<◌, ◌+◌, [], ◌∷◌, length, drop, slice_index_or, None, sym, ap, ◌∙◌, arith}
-use Rattle.std.proofs.lemmas.Option.{slice_get-get_or}
+use Rattle.std.proofs.Common.{◌≡◌, ◌<◌, ◌+◌, [], ◌∷◌, length, drop, slice_index_or, None, refl, sym, ap, ◌∙◌, arith}
+use Rattle.std.proofs.lemmas.Option.{slice_get-get_or, slice_get_read}
 use Rattle.eos_fold.specs.declared.entry.Ending.TheVariants.{Plain}
-use Rattle.eos_fold.specs.declared.head.DataHead.{DataHead}
+use Rattle.eos_fold.specs.Heads.{DataHead}
 use Rattle.eos_fold.specs.declared.item.Item.{Item}
 use Rattle.eos_kept.specs.Items.{items_under}
 use Rattle.eos_kept.specs.Records.{records_in}
@@ -41,7 +41,8 @@ new-requires-clause-inside c =
     let heads = c.self.inside.heads.now in
     let k = c.skip_ended-head.result.0 in
     let lt : k < length heads = omega (arith, c.if-head-heads.false) in
-    c.skip_ended-head.ensures.inside (slice_index_or heads k none) (slice_get-get_or heads k none lt)
+    let h = c.index-heads-head.result in
+    c.skip_ended-head.ensures.inside h (slice_get_read heads (length heads) k h refl lt c.index-heads-head.is)
 
 pub new-requires-clause-said : goal.new-requires-clause-said
 new-requires-clause-said c = said_at (records_in c.self.inside.records.now) c.self.inside.passed c.view.result c.view.ensures c.self.invariant.2
@@ -54,8 +55,8 @@ returns-clause-some c =
     let k = c.skip_ended-head.result.0 in
     let place = c.skip_ended-head.result.1 in
     let lt : k < length heads = omega (arith, c.if-head-heads.false) in
-    let h = slice_index_or heads k none in
-    let at = slice_get-get_or heads k none lt in
+    let h = c.index-heads-head.result in
+    let at = slice_get_read heads (length heads) k h refl lt c.index-heads-head.is in
     let inside = c.skip_ended-head.ensures.inside h at in
     sym c.self.view_is
     ∙ (c.skip_ended-head.ensures.same (drop passed recs)

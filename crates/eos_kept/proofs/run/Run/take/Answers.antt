@@ -1,7 +1,7 @@
 use Rattle.std.proofs.Common.{◌≡◌, ◌∷◌, [], ◌++◌, List, sym, ap, ◌∙◌, false, true}
 use Rattle.eos_batch.specs.Attributes.{is_control}
 use Rattle.eos_batch.specs.declared.head.BatchHead.{BatchHead}
-use Rattle.eos_fold.specs.declared.head.DataHead.{DataHead}
+use Rattle.eos_fold.specs.Heads.{DataHead}
 use Rattle.std.proofs.lemmas.List.{append-nil}
 use Rattle.eos_kept.proofs.JoinedRuns.{begins_with, made, no_data}
 use Rattle.eos_kept.proofs.run.Run.take.Goals as goal
