@@ -1,6 +1,6 @@
 //! `coordinator`: which partition of Kafka's own two topics names have.
 
-ghost use Rattle.std.specs.Prelude.{◌≡◌, ◌<◌, Err, OnOk, OnErr, map};
+ghost use Rattle.std.specs.Prelude.{◌≡◌, ◌<◌, Err, IfOk, OnOk, OnErr, map};
 ghost use Rattle.std.specs.Io.KnownBytes.{Appends, Keeps};
 ghost use Rattle.eos_manifest.specs.Coordinators.{coordinator_lines};
 ghost use Rattle.eos_text.specs.Writing.{WritesFront};
@@ -53,6 +53,7 @@ pub fn coordinators_to<W: Write>(
 ) -> Result<u8, RunFault>
     requires { 0 < partitions }
     ensures ok { OnOk result (Appends (W.contents writer.old) (W.contents writer.new) (coordinator_lines partitions (map (λ n. n.now) names.now))) }
+    ensures status { IfOk result (λ status. status ≡ 0) }
     ensures write { result ≡ Err RunFault.Write → WritesFront (W.contents writer.old) (W.contents writer.new) (coordinator_lines partitions (map (λ n. n.now) names.now)) }
     ensures memory { result ≡ Err RunFault.OutOfMemory → Keeps (W.contents writer.old) (W.contents writer.new) }
     ensures only { OnErr result (IsOfReading result → ⊥) }

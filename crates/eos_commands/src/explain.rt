@@ -1,6 +1,6 @@
 //! `explain`: what a kind of fault is.
 
-ghost use Rattle.std.specs.Prelude.{◌≡◌, Err, OnOk, OnErr};
+ghost use Rattle.std.specs.Prelude.{◌≡◌, Err, IfOk, OnOk, OnErr};
 ghost use Rattle.std.specs.Io.KnownBytes.{Appends, Keeps};
 ghost use Rattle.eos_text.specs.Pages.{page_text};
 ghost use Rattle.eos_text.specs.Writing.{WritesFront};
@@ -35,6 +35,7 @@ pub fn explain_code(rt: &HostRuntime, code: &str) -> u8 {
 /// At `Write` a front of it was written, at `OutOfMemory` nothing. There is no other refusal.
 pub fn page_to<W: Write>(alloc: Global, page: &Page, writer: &mut W) -> Result<u8, RunFault>
     ensures ok { OnOk result (Appends (W.contents writer.old) (W.contents writer.new) (page_text page.now)) }
+    ensures status { IfOk result (λ status. status ≡ 0) }
     ensures write { result ≡ Err RunFault.Write → WritesFront (W.contents writer.old) (W.contents writer.new) (page_text page.now) }
     ensures memory { result ≡ Err RunFault.OutOfMemory → Keeps (W.contents writer.old) (W.contents writer.new) }
     ensures only { OnErr result (IsOfReading result → ⊥) }
