@@ -148,25 +148,16 @@ both_from : (a b : Bool) → (a && b) ≡ true → (a ≡ true) × (b ≡ true)
 both_from true b e = (refl, e)
 both_from false b e = absurd cc
 
-is_own : (p : PartLog) (name : PartitionName) → part_name p ≡ name → is_of_name (Some name) p ≡ true
+pub is_own : (p : PartLog) (name : PartitionName) → part_name p ≡ name → is_of_name (Some name) p ≡ true
 is_own p name e =
     subst (λ (z : PartitionName). is_of_name (Some z) p ≡ true) e (both _ _ (self_tied (slice_cmp nat_cmp) nat_list_cmp_total p.topic) (self_tied int_cmp int_cmp_total p.number))
 
-by_name : (p : PartLog) (name : PartitionName) → is_of_name (Some name) p ≡ true → part_name p ≡ name
+pub by_name : (p : PartLog) (name : PartitionName) → is_of_name (Some name) p ≡ true → part_name p ≡ name
 by_name p name e =
     let r = both_from (is_eq (slice_cmp nat_cmp p.topic name.topic)) (int_eq p.number name.partition) e in
     let topic : p.topic ≡ name.topic = bytes_exact p.topic name.topic (is_tied (slice_cmp nat_cmp p.topic name.topic) r.0) in
     let number : p.number ≡ name.partition = int_exact p.number name.partition (is_tied (int_cmp p.number name.partition) r.1) in
     λ i. record { topic = topic i; partition = number i }
-
-is_other : (b : Bool) → (b ≡ true → ⊥) → b ≡ false
-is_other true never = absurd (never refl)
-is_other false never = refl
-
--- a partition of this name, by what the two answers of a test say
-pub named_is : (r : Bool) (p : PartLog) (name : PartitionName) → (r ≡ true → part_name p ≡ name) → (r ≡ false → part_name p ≢ name) → r ≡ is_of_name (Some name) p
-named_is true p name same apart = sym (is_own p name (same refl))
-named_is false p name same apart = sym (is_other (is_of_name (Some name) p) (λ e. apart refl (by_name p name e)))
 
 pub flat_next : {X Y : Type 0} (f : X → List Y) (xs : List X) (i : ℕ) (d : X) (old now all : List Y) → i < length xs → now ≡ old ++ f (get_or xs i d) → old ++ flat_map f (drop i xs) ≡ all
     → now ++ flat_map f (drop (i + 1) xs) ≡ all

@@ -45,13 +45,6 @@ pub(crate) fn commit_of<'a>(item: &ItemRef<'a>) -> Option<(KeyRef<'a>, i64)> {
     }
 }
 
-fn last_of<'a>(last: &BTreeMap<Source<'a>, i64>, source: &Source<'a>) -> i64 {
-    match last.get(source) {
-        Some(offset) => *offset,
-        None => 0,
-    }
-}
-
 fn take_commit<'a>(
     passes: &mut Vec<Pass<'a>>,
     last: &mut BTreeMap<Source<'a>, i64>,
@@ -66,7 +59,7 @@ fn take_commit<'a>(
         topic: key.topic,
         partition: key.partition,
     };
-    let from = last_of(last, &source);
+    let from = last.get(&source).copied().unwrap_or(0);
     if let Some(writer) = item.writer() {
         if let Some(column) = column_of(columns, writer) {
             passes.push(Pass {
