@@ -6,6 +6,7 @@ mod answer;
 mod batches;
 mod command;
 mod folder;
+mod kinds;
 mod lines;
 mod paths;
 mod records;
@@ -18,5 +19,6 @@ mod whole_story;
 
 pub use answer::{Answer, Asked, explain};
 pub use folder::{Explained, Folder, Unexplained, Which, explain_folder, explain_folder_to};
+pub use kinds::{KindCount, KindCounts};
 pub use stories::{First, first_stories, first_stories_of};
 pub use whole_story::{Story, story_text};

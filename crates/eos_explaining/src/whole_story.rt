@@ -9,6 +9,7 @@ ghost use Rattle.eos_explaining.specs.Lines.{AreAmong, AreDistinct};
 ghost use Rattle.eos_explaining.specs.Stories.{lines_of_first, lines_of_story, rows_text, rest_text, page_text, notes_text, next_text, story_text};
 
 use crate::command::push_command;
+use crate::kinds::{KindCounts, push_counts};
 use crate::lines::push_joined;
 use crate::rows::push_more;
 use crate::sentences::{push_sentences, shown_of};
@@ -19,7 +20,7 @@ use eos_evidence::Partition;
 use eos_notes::{Note, note_lines};
 use eos_story::{Row, Told};
 use eos_text::{Page, push_text};
-use eos_verdict::{push_counts, verdict_line};
+use eos_verdict::verdict_line;
 use std::alloc::{AllocError, Global};
 
 /// How many lines of rows there are at most, and of notes.
@@ -42,8 +43,8 @@ pub struct Story<'a> {
     pub partitions: &'a [Partition],
     /// The catalogue's page of its kind.
     pub page: Option<&'a Page>,
-    /// All faults, each as a verdict names it.
-    pub told: &'a [Verdict],
+    /// How many faults there are of each kind.
+    pub counts: &'a KindCounts,
     /// The notes on the evidence.
     pub notes: &'a [Note],
 }
@@ -136,7 +137,7 @@ pub fn story_text(alloc: Global, story: &Story<'_>) -> Result<String, AllocError
     let mut text = verdict_line(alloc, story.verdict)?;
     push_rows(alloc, &mut text, story)?;
     push_page(alloc, &mut text, story.place, story.rows, story.page)?;
-    push_counts(&mut text, story.told)?;
+    push_counts(&mut text, story.counts)?;
     push_notes(alloc, &mut text, story.notes)?;
     push_next(alloc, &mut text, story)?;
     Ok(text)

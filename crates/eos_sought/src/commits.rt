@@ -29,7 +29,7 @@ pub fn group_of(alloc: Global, key: Option<&[u8]>) -> Result<Option<Bytes>, Allo
     }
 }
 
-fn is_commit(part: &Part) -> bool
+pub(crate) fn is_commit(part: &Part) -> bool
     ensures { result ≡ is_commit part.now }
 {
     is_of(part, b"__consumer_offsets".as_slice())

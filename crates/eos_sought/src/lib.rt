@@ -8,6 +8,7 @@
 mod alike;
 mod commits;
 mod finding;
+mod holding;
 mod moment;
 mod partition;
 mod reading;
