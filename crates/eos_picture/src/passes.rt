@@ -6,6 +6,7 @@ use eos_commits::is_visible;
 use eos_fold::Fate;
 use eos_kept::{ItemRef, Part};
 use eos_offsets::{KeyRef, view_key, view_value};
+use eos_sought::is_of_offsets_log;
 use std::alloc::{AllocError, Global};
 use std::collections::BTreeMap;
 
@@ -27,11 +28,6 @@ pub(crate) struct Pass<'a> {
     pub fate: Fate,
     pub from: i64,
     pub to: i64,
-}
-
-/// Whether it is a partition of the offsets log.
-pub(crate) fn is_of_offsets_log(part: &Part) -> bool {
-    part.topic().as_slice() == b"__consumer_offsets".as_slice()
 }
 
 /// What a record of the offsets log commits, if it does.
