@@ -2,3 +2,4 @@ pub mod Keeping
 pub mod NoState
 pub mod BatchWalks
 pub mod PartitionWalks
+mod NoneHeld

@@ -29,7 +29,8 @@ pub fn group_of(alloc: Global, key: Option<&[u8]>) -> Result<Option<Bytes>, Allo
     }
 }
 
-fn is_commit(part: &Part) -> bool
+/// Whether a partition is of the offsets log.
+pub fn is_of_offsets_log(part: &Part) -> bool
     ensures { result ≡ is_commit part.now }
 {
     is_of(part, b"__consumer_offsets".as_slice())
@@ -84,18 +85,18 @@ fn goes_past(place: &Place, value: Option<&[u8]>) -> bool
 pub(crate) fn is_of_group(group: &[u8], part: &Part, item: &ItemRef<'_>) -> bool
     ensures { result ≡ is_of_group group.now part.now item.now }
 {
-    is_commit(part) && is_key_of(group, item.key())
+    is_of_offsets_log(part) && is_key_of(group, item.key())
 }
 
 /// Whether a record is a commit of any group that goes past an input.
 pub(crate) fn is_passed(place: &Place, part: &Part, item: &ItemRef<'_>) -> bool
     ensures { result ≡ is_passed place.now part.now item.now }
 {
-    is_commit(part) && is_key_past(place, item.key()) && goes_past(place, item.value())
+    is_of_offsets_log(part) && is_key_past(place, item.key()) && goes_past(place, item.value())
 }
 
 /// Whether a record is a commit of this group that goes past an input.
-pub(crate) fn passes(group: &[u8], place: &Place, part: &Part, item: &ItemRef<'_>) -> bool
+pub fn passes(group: &[u8], place: &Place, part: &Part, item: &ItemRef<'_>) -> bool
     ensures { result ≡ passes group.now place.now part.now item.now }
 {
     is_of_group(group, part, item) && is_passed(place, part, item)

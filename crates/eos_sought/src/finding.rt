@@ -6,6 +6,7 @@ ghost use Rattle.eos_sought.specs.declared.finding.Find.{Find as Record};
 ghost use Rattle.eos_sought.specs.Finds.{find_in, among, all_in, all_of, AreFirst};
 ghost use Rattle.eos_sought.specs.Sought.{meets};
 
+use crate::holding::may_hold;
 use crate::sought::{Sought, meets};
 use eos_base::PartitionName;
 use eos_fold::Item;
@@ -79,8 +80,8 @@ fn take_item(
     Ok(())
 }
 
-/// With those of a partition.
-fn take_part(
+/// With those of a partition, each of whose records is looked at.
+fn walk_part(
     alloc: Global,
     finds: &mut Finds,
     sought: &Sought,
@@ -99,8 +100,24 @@ fn take_part(
     Ok(())
 }
 
-/// The first data records of the logs that are sought, so many at most, by partition and offset, and how many there are. All
-/// records are passed over once.
+/// With those of a partition.
+fn take_part(
+    alloc: Global,
+    finds: &mut Finds,
+    sought: &Sought,
+    part: &Part,
+) -> Result<(), AllocError>
+    ensures most { finds.new.most ≡ finds.old.most }
+    ensures taken { (xs : List Record) → AreFirst xs finds.old → OnOk result (AreFirst (xs ++ all_in sought.now part.now) finds.new) }
+{
+    if !may_hold(sought, part) {
+        return Ok(());
+    }
+    walk_part(alloc, finds, sought, part)
+}
+
+/// The first data records of the logs that are sought, so many at most, by partition and offset, and how many there are. The
+/// records of those partitions that may have some by their names are passed over once.
 ///
 /// # Errors
 /// Only want of memory.

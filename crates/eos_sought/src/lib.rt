@@ -8,6 +8,7 @@
 mod alike;
 mod commits;
 mod finding;
+mod holding;
 mod moment;
 mod partition;
 mod reading;
@@ -16,7 +17,7 @@ mod times;
 mod walk;
 mod wanted;
 
-pub use commits::group_of;
+pub use commits::{group_of, is_of_offsets_log, passes};
 pub use finding::{Find, Finds, find_records};
 pub use moment::push_time;
 pub use partition::{Placed, batches_of, is_named, partition_named};

@@ -131,7 +131,7 @@ fn is_such(sought: &Sought, state: &TxnValue) -> bool
     }
 }
 
-fn is_state(part: &Part) -> bool
+pub(crate) fn is_state(part: &Part) -> bool
     ensures { result ≡ is_state part.now }
 {
     is_of(part, b"__transaction_state".as_slice())

@@ -1,7 +1,7 @@
 use Rattle.std.proofs.Common.{◌≡◌, ◌++◌, length, List, drop, take}
 use Rattle.eos_sought.specs.declared.finding.Find.{Find}
 use Rattle.eos_sought.specs.Finds.{among, AreFirst}
-use Rattle.eos_sought.proofs.finding.take_part.Given as goal
+use Rattle.eos_sought.proofs.finding.walk_part.Given as goal
 
 abbrev pub invariant-loop-item : goal.invariant-loop-item
 invariant-loop-item l = record {
