@@ -55,13 +55,13 @@ fn read_kept<R: Read>(
             let (front, outputs) = read_front(alloc, &Outputs { topics }, begin, reader)?;
             let kept = FoldKept::Claims {
                 topics: Listed::new(copies_of(alloc, topics)?),
-                outputs: Listed::new(outputs),
+                outputs: Listed::new(outputs.into_vec()),
             };
             Ok((front, kept))
         }
         Wanted::Texts => {
             let (front, texts) = read_front(alloc, &FoldTexts, begin, reader)?;
-            Ok((front, FoldKept::Texts(Listed::new(texts))))
+            Ok((front, FoldKept::Texts(Listed::new(texts.into_vec()))))
         }
     }
 }

@@ -6,12 +6,69 @@ ghost use Rattle.eos_claims.specs.Slots.{plain_claim};
 use crate::FoldText;
 use bytes::Bytes;
 use eos_claims::{ClaimRef, view_claim};
-use eos_reading::{BoxedClaim, Placed, Reading};
+use eos_reading::{BoxedClaim, KeptList, Placed, Reading};
 use std::alloc::{AllocError, Global};
+use std::marker::Model;
 
 /// Keeps a copy of a record's key and value, and of the claim in its headers, where there is one.
 #[derive(Clone, Copy)]
 pub(crate) struct FoldTexts;
+
+/// A plain list of records' keys and values, which contracts see as that list.
+#[derive(Drop)]
+pub(crate) struct FoldTextList {
+    texts: Vec<FoldText>,
+}
+
+impl Model for FoldTextList {
+    ghost use Rattle.std.specs.Prelude.{Vec};
+    ghost use Rattle.std.proofs.Common.{Global};
+    ghost use Rattle.eos_fold_file.specs.declared.claim.FoldText.{FoldText as Text};
+
+    ghost Value = { Vec Text Global };
+
+    ghost view = { λ t. t.texts };
+}
+
+impl FoldTextList {
+    pub(crate) fn into_vec(self) -> Vec<FoldText>
+        ensures { result ≡ self }
+    {
+        self.texts
+    }
+}
+
+impl KeptList for FoldTextList {
+    ghost use Rattle.std.specs.Prelude.{◌+◌, ◌≤◌, length, vec_capacity};
+
+    type One = FoldText;
+
+    ghost list = { λ v. v.items };
+
+    ghost has_room = { λ v w. length v.items + length w.items ≤ vec_capacity v };
+
+    fn new(alloc: Global) -> FoldTextList {
+        FoldTextList {
+            texts: KeptList::new(alloc),
+        }
+    }
+
+    fn len(&self) -> usize {
+        self.texts.len()
+    }
+
+    fn truncate(&mut self, count: usize) {
+        self.texts.truncate(count);
+    }
+
+    fn make_room(&mut self, more: &mut FoldTextList) -> Result<(), AllocError> {
+        KeptList::make_room(&mut self.texts, &mut more.texts)
+    }
+
+    fn append(&mut self, more: FoldTextList) {
+        KeptList::append(&mut self.texts, more.texts);
+    }
+}
 
 /// A copy of a text, which may be null.
 fn copy_of_text(alloc: Global, text: Option<&[u8]>) -> Result<Option<Bytes>, AllocError>
@@ -60,7 +117,7 @@ fn copy_of_claim(
 }
 
 impl Reading for FoldTexts {
-    type Kept = FoldText;
+    type Kept = FoldTextList;
 
     ghost use Rattle.eos_fold_file.specs.Folds.{fold_text_of};
 
@@ -69,12 +126,14 @@ impl Reading for FoldTexts {
     fn keep(
         &self,
         alloc: Global,
+        to: &mut FoldTextList,
         _offset: u64,
         placed: Placed<'_>,
-    ) -> Result<FoldText, AllocError> {
+    ) -> Result<(), AllocError> {
         let record = placed.view();
         let (key, value) = copies_of_texts(alloc, record.key(), record.value())?;
         let claim = copy_of_claim(alloc, view_claim(record.into_headers()))?;
-        Ok(FoldText { key, value, claim })
+        to.texts.push(FoldText { key, value, claim })?;
+        Ok(())
     }
 }

@@ -17,7 +17,7 @@ use eos_base::Listed;
 use eos_batch::BatchFault;
 use eos_evidence::{MAX_SEGMENT_BYTES, ReadFault};
 use eos_fold::{Stop, read_folded};
-use eos_reading::{EpochEntry, Reading};
+use eos_reading::{EpochEntry, KeptList, Reading};
 use std::alloc::{AllocError, Global};
 use std::io::Read;
 
@@ -54,14 +54,14 @@ fn stop_of(begin: u64, found: Option<u64>, stop: Option<(u64, BatchFault)>) -> S
 }
 
 /// The front of a segment of this name, and what is kept of its data records.
-fn front_of<T: Drop>(
+fn front_of<L: KeptList + Drop>(
     alloc: Global,
     begin: u64,
-    sealed: Sealed<T>,
-) -> Result<(Front, Vec<T>), AllocError>
+    sealed: Sealed<L>,
+) -> Result<(Front, L), AllocError>
     requires begin { begin ≤ 2 ^ 63 }
     requires fit { AllFit sealed.folded.heads }
-    ensures { IfOk result (λ both. (keep : ℕ → Record → T) (bytes : List ℕ) → length bytes < 2 ^ 64 → IsSealed keep bytes sealed → IsFront begin bytes (λ batches. both.1.items ≡ kept_of keep batches) both.0) }
+    ensures { IfOk result (λ both. (keep : ℕ → Record → L.One) (bytes : List ℕ) → length bytes < 2 ^ 64 → IsSealed keep bytes sealed → IsFront begin bytes (λ batches. L.list both.1 ≡ kept_of keep batches) both.0) }
 {
     let passed = pass_heads(alloc, begin, sealed.heads.as_slice())?;
     let stop = stop_of(begin, passed.found, sealed.stop);
@@ -87,10 +87,10 @@ pub(crate) fn read_front<K: Reading, R: Read>(
     reading: &K,
     begin: u64,
     reader: &mut R,
-) -> Result<(Front, Vec<K::Kept>), ReadFault>
+) -> Result<(Front, K::Kept), ReadFault>
     requires { begin ≤ 2 ^ 63 }
     ensures ok { IfOk result (λ both. (bytes : List ℕ) × Consumes (R.remaining reader.old) (R.remaining reader.new) bytes × (length bytes ≤ MAX_SEGMENT_BYTES)
-        × IsFront begin bytes (λ batches. both.1.items ≡ kept_of (K.kept reading.now) batches) both.0) }
+        × IsFront begin bytes (λ batches. K.Kept.list both.1 ≡ kept_of (K.kept reading.now) batches) both.0) }
     ensures end { OnOk result (IsAtEnd (R.remaining reader.new)) }
     ensures read { result ≡ Err ReadFault.Read → TakesAtMost MAX_SEGMENT_BYTES (R.remaining reader.old) (R.remaining reader.new) }
     ensures limit { result ≡ Err ReadFault.Limit → Takes (MAX_SEGMENT_BYTES + 1) (R.remaining reader.old) (R.remaining reader.new) }

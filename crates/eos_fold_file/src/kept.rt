@@ -15,6 +15,7 @@ ghost use Rattle.eos_fold_file.specs.steps.Kept.{AreReadBack, topics_in};
 use crate::FoldKept;
 use crate::run_texts::copies_of;
 use eos_kept::{Front, Kept, KeptRun, Sizes};
+use eos_reading::KeptOutputs;
 use std::alloc::{AllocError, Global};
 
 /// A run of this front, which has so many data records, with what a fold keeps of them.
@@ -43,7 +44,8 @@ pub(crate) fn with_kept(
             Ok(KeptRun::Presence(Kept::new(front, present, sizes)))
         }
         FoldKept::Claims { outputs, .. } => {
-            Ok(KeptRun::Claims(Kept::new(front, outputs.into_vec(), sizes)))
+            let outputs = KeptOutputs::of(outputs.into_vec());
+            Ok(KeptRun::Claims(Kept::new(front, outputs, sizes)))
         }
         FoldKept::Texts(texts) => {
             let texts = copies_of(alloc, texts.as_slice())?;

@@ -7,7 +7,7 @@ ghost use Rattle.eos_fold_file.specs.steps.Kept.{text_record};
 use crate::FoldText;
 use crate::claims::lent;
 use bytes::Bytes;
-use eos_reading::KeptText;
+use eos_reading::{KeptList, KeptTexts};
 use std::alloc::{AllocError, Global};
 
 /// A text's bytes, where it isn't null.
@@ -21,15 +21,15 @@ fn bytes_of(text: &Option<Bytes>) -> Option<&[u8]>
 }
 
 /// Copies of these: nothing of them shares the file's bytes.
-pub(crate) fn copies_of(alloc: Global, texts: &[FoldText]) -> Result<Vec<KeptText>, AllocError>
+pub(crate) fn copies_of(alloc: Global, texts: &[FoldText]) -> Result<KeptTexts, AllocError>
     requires { All (λ text. ReadsBack text.claim) texts.now }
-    ensures { IfOk result (λ copies. copies.items ≡ map text_record texts.now) }
+    ensures { IfOk result (λ copies. copies.list ≡ map text_record texts.now) }
 {
-    let mut copies = Vec::with_capacity(alloc, texts.len())?;
+    let mut copies: KeptTexts = KeptList::new(alloc);
     for text in texts {
         let key = bytes_of(&text.key);
         let value = bytes_of(&text.value);
-        copies.push(KeptText::new(alloc, key, value, lent(&text.claim))?)?;
+        copies.push(alloc, key, value, lent(&text.claim))?;
     }
     Ok(copies)
 }

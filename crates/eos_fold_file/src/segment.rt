@@ -7,7 +7,7 @@ ghost use Rattle.eos_fold_file.specs.steps.Sealing.{IsSealing, IsSealed};
 use bytes::Bytes;
 use eos_batch::{BatchFault, BatchHead};
 use eos_fold::ByteFold;
-use eos_reading::{Reading, Seal, keep_batches, read_seals};
+use eos_reading::{KeptList, Reading, Seal, keep_batches, read_seals};
 use std::alloc::{AllocError, Global};
 use std::marker::Model;
 
@@ -15,7 +15,7 @@ use std::marker::Model;
 #[derive(Drop)]
 pub(crate) struct Sealing<K: Reading> {
     heads: Vec<BatchHead>,
-    kept: Vec<K::Kept>,
+    kept: K::Kept,
     seals: Vec<Seal>,
     /// The byte after the last batch.
     place: u64,
@@ -28,9 +28,9 @@ pub(crate) struct Sealing<K: Reading> {
 impl<K: Reading> Model for Sealing<K> {
     ghost use Rattle.eos_fold_file.specs.steps.Sealing.{SealingView};
 
-    ghost Value = { SealingView K.Kept };
+    ghost Value = { SealingView K.Kept.One };
 
-    ghost view = { λ f. record { fold = record { heads = f.heads.items; kept = f.kept.items; place = f.place; fault = f.fault; taken = f.taken }; seals = f.seals.items } };
+    ghost view = { λ f. record { fold = record { heads = f.heads.items; kept = K.Kept.list f.kept; place = f.place; fault = f.fault; taken = f.taken }; seals = f.seals.items } };
 }
 
 /// Those from this place on.
@@ -76,9 +76,9 @@ impl<K: Reading> ByteFold for Sealing<K> {
 
 /// A whole segment.
 #[derive(Drop)]
-pub(crate) struct Sealed<T> {
+pub(crate) struct Sealed<L: KeptList> {
     pub(crate) heads: Vec<BatchHead>,
-    pub(crate) kept: Vec<T>,
+    pub(crate) kept: L,
     /// One for each batch.
     pub(crate) seals: Vec<Seal>,
     /// The first byte where no batch stands, and why none does.
@@ -86,22 +86,22 @@ pub(crate) struct Sealed<T> {
     pub(crate) bytes: u64,
 }
 
-impl<T> Model for Sealed<T> {
+impl<L: KeptList> Model for Sealed<L> {
     ghost use Rattle.eos_fold_file.specs.steps.Sealing.{SealedView};
 
-    ghost Value = { SealedView T };
+    ghost Value = { SealedView L.One };
 
-    ghost view = { λ f. record { folded = record { heads = f.heads.items; kept = f.kept.items; stop = f.stop; bytes = f.bytes }; seals = f.seals.items } };
+    ghost view = { λ f. record { folded = record { heads = f.heads.items; kept = L.list f.kept; stop = f.stop; bytes = f.bytes }; seals = f.seals.items } };
 }
 
 impl<K: Reading> Sealing<K> {
     /// Before the first byte.
     pub(crate) fn new(alloc: Global) -> Sealing<K>
-        ensures { (keep : ℕ → Record → K.Kept) → IsSealing keep [] [] result }
+        ensures { (keep : ℕ → Record → K.Kept.One) → IsSealing keep [] [] result }
     {
         Sealing {
             heads: Vec::new(alloc),
-            kept: Vec::new(alloc),
+            kept: KeptList::new(alloc),
             seals: Vec::new(alloc),
             place: 0,
             fault: BatchFault::Truncated,
@@ -111,7 +111,7 @@ impl<K: Reading> Sealing<K> {
 
     /// The whole segment, of which so many bytes still wait.
     pub(crate) fn finish(self, waiting: usize) -> Sealed<K::Kept>
-        ensures { (keep : ℕ → Record → K.Kept) (bytes rest : List ℕ) → IsSealing keep bytes rest self → length rest ≡ waiting → IsSealed keep bytes result }
+        ensures { (keep : ℕ → Record → K.Kept.One) (bytes rest : List ℕ) → IsSealing keep bytes rest self → length rest ≡ waiting → IsSealed keep bytes result }
     {
         let bytes = self.taken.saturating_add(waiting as u64);
         if self.fault != BatchFault::Truncated {

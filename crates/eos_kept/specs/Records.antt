@@ -15,7 +15,7 @@ output_record topics kept = record_of None None (claim_kept topics kept)
 abbrev pub records_in : Records → List Record
 records_in (Presence kept) = map (λ one. record_of None None None) kept.items
 records_in (Claims topics kept) = map (output_record topics.items) kept.items
-records_in (Texts kept) = kept.items
+records_in (Texts kept) = kept.list
 
 -- the claims can be read back from the headers that say them
 abbrev pub ReadBack : Records → Type 0

@@ -4,12 +4,13 @@ ghost use Rattle.std.specs.Prelude.{◌≡◌};
 ghost use Rattle.eos_kept.specs.steps.Fronts.{AreEach, IsApart};
 
 use crate::{Front, Kept, Sizes};
+use eos_reading::KeptList;
 use std::alloc::Global;
 
 /// The front, what is kept of its records, and how large the segments are; of no segment no front and no records.
-pub(crate) fn apart<T: Drop>(alloc: Global, run: Option<Kept<T>>) -> (Option<Front>, Vec<T>, Sizes)
-    ensures parts { IsApart run result.0 result.1.items result.2 }
-    ensures each { AreEach result.0 result.1.items }
+pub(crate) fn apart<L: KeptList>(alloc: Global, run: Option<Kept<L>>) -> (Option<Front>, L, Sizes)
+    ensures parts { IsApart run result.0 (L.list result.1) result.2 }
+    ensures each { AreEach result.0 (L.list result.1) }
 {
     match run {
         None => {
@@ -17,7 +18,7 @@ pub(crate) fn apart<T: Drop>(alloc: Global, run: Option<Kept<T>>) -> (Option<Fro
                 segments: 0,
                 bytes: 0,
             };
-            (None, Vec::new(alloc), sizes)
+            (None, KeptList::new(alloc), sizes)
         }
         Some(run) => {
             let sizes = run.sizes();

@@ -16,7 +16,7 @@ use bytes::Bytes;
 use eos_batch::{BatchFault, BatchHead};
 use eos_evidence::MAX_SEGMENT_BYTES;
 use eos_fold::{ByteFold, Stop};
-use eos_reading::{EpochEntry, Reading, Seal, keep_batches, push_entries, read_seals};
+use eos_reading::{EpochEntry, KeptList, Reading, Seal, keep_batches, push_entries, read_seals};
 use std::alloc::{AllocError, Global};
 use std::marker::Model;
 
@@ -36,7 +36,7 @@ pub(crate) struct SegmentFold<K: Reading> {
     front: Front,
     /// The leader epochs of the front's batches.
     epochs: Vec<EpochEntry>,
-    kept: Vec<K::Kept>,
+    kept: K::Kept,
     /// How many bytes were taken: up to the last batch, or all behind a front's end.
     place: u64,
     /// The heads of a chunk's batches.
@@ -51,11 +51,11 @@ impl<K: Reading> Model for SegmentFold<K> {
     ghost use Rattle.eos_kept.specs.contracts.front.Front as of_front;
     ghost use Rattle.eos_kept.specs.steps.Folding.{FoldView};
 
-    ghost Value = { FoldView K.Kept };
+    ghost Value = { FoldView K.Kept.One };
 
     ghost coded = { Prim.hlevel (codes, of_front.the_row.coded) };
 
-    ghost view = { λ f. record { front = f.front; epochs = f.epochs.items; kept = f.kept.items; place = f.place } };
+    ghost view = { λ f. record { front = f.front; epochs = f.epochs.items; kept = K.Kept.list f.kept; place = f.place } };
 
     ghost invariant = { λ f. IsRun f.front.run };
 }
@@ -94,8 +94,8 @@ fn cut_at(front: &mut Front, place: u64, waiting: usize)
 }
 
 /// Cuts what is kept back to so many after those before.
-fn keep_first<T: Drop>(kept: &mut Vec<T>, before: usize, count: usize) -> Result<(), AllocError>
-    ensures { OnOk result (kept.new.items ≡ take (before + count) kept.old.items) }
+fn keep_first<L: KeptList>(kept: &mut L, before: usize, count: usize) -> Result<(), AllocError>
+    ensures { OnOk result (L.list kept.new ≡ take (before + count) (L.list kept.old)) }
 {
     let Some(end) = before.checked_add(count) else {
         return Err(AllocError);
@@ -162,12 +162,12 @@ impl<K: Reading> SegmentFold<K> {
     /// Before the first byte of a segment of this name.
     pub(crate) fn new(alloc: Global, begin: u64, sequenced: bool) -> SegmentFold<K>
         requires { begin ≤ 2 ^ 63 }
-        ensures { (keep : ℕ → Record → K.Kept) → IsFolding keep begin sequenced [] [] result }
+        ensures { (keep : ℕ → Record → K.Kept.One) → IsFolding keep begin sequenced [] [] result }
     {
         SegmentFold {
             front: Front::new(alloc, begin, sequenced),
             epochs: Vec::new(alloc),
-            kept: Vec::new(alloc),
+            kept: KeptList::new(alloc),
             place: 0,
             heads: Vec::new(alloc),
             seals: Vec::new(alloc),
@@ -177,8 +177,8 @@ impl<K: Reading> SegmentFold<K> {
     /// What the whole segment gives, of which so many bytes still wait.
     pub(crate) fn finish(self, waiting: usize) -> Kept<K::Kept>
         requires size { self.place + waiting ≤ MAX_SEGMENT_BYTES }
-        requires folded { (keep : ℕ → Record → K.Kept) × (begin : ℕ) × (sequenced : Bool) × (fed : List ℕ) × (rest : List ℕ) × IsFolding keep begin sequenced fed rest self }
-        ensures { (keep : ℕ → Record → K.Kept) (segment : Segment) (rest : List ℕ) → length rest ≡ waiting
+        requires folded { (keep : ℕ → Record → K.Kept.One) × (begin : ℕ) × (sequenced : Bool) × (fed : List ℕ) × (rest : List ℕ) × IsFolding keep begin sequenced fed rest self }
+        ensures { (keep : ℕ → Record → K.Kept.One) (segment : Segment) (rest : List ℕ) → length rest ≡ waiting
             → IsFolding keep (base_of segment) (is_checked segment) segment.bytes rest self → IsKept keep (segment ∷ []) result }
     {
         let SegmentFold {

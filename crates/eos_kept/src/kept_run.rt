@@ -9,7 +9,7 @@ ghost use Rattle.eos_kept.specs.KeptRuns.{IsKeptRun, HasClaims, wanted_by, front
 use crate::{Kept, keep_segment};
 use bytes::Bytes;
 use eos_evidence::{MAX_SEGMENT_BYTES, ReadFault};
-use eos_reading::{KeptOutput, KeptText, Nothing, Outputs, Texts, Wanted};
+use eos_reading::{KeptOutputs, KeptTexts, Nothing, Outputs, Texts, Wanted};
 use std::alloc::Global;
 use std::io::Read;
 
@@ -17,11 +17,11 @@ use std::io::Read;
 #[derive(Drop)]
 pub enum KeptRun {
     /// That their records are there.
-    Presence(Kept<()>),
+    Presence(Kept<Vec<()>>),
     /// The claims of their records.
-    Claims(Kept<KeptOutput>),
+    Claims(Kept<KeptOutputs>),
     /// The keys, values and claims of their records.
-    Texts(Kept<KeptText>),
+    Texts(Kept<KeptTexts>),
 }
 
 /// What is asked of a segment: what is wanted of its log, and the topics that are asked for.

@@ -21,7 +21,7 @@ use eos_base::Listed;
 use eos_batch::Marker;
 use eos_evidence::End;
 use eos_fold::Close;
-use eos_reading::{EpochEntry, KeptOutput, KeptText};
+use eos_reading::{EpochEntry, KeptOutputs, KeptTexts};
 use eos_touch::PartitionFault;
 use std::alloc::{AllocError, Global};
 use std::marker::Model;
@@ -105,7 +105,11 @@ impl KeptPart {
     ///
     /// # Errors
     /// Only want of memory.
-    pub fn of_presence(alloc: Global, end: End, run: Option<Kept<()>>) -> Result<Told, AllocError>
+    pub fn of_presence(
+        alloc: Global,
+        end: End,
+        run: Option<Kept<Vec<()>>>,
+    ) -> Result<Told, AllocError>
         ensures { IfOk result (IsMade Presence (λ offset r. tt) end run) }
     {
         let (front, kept, sizes) = apart(alloc, run);
@@ -121,7 +125,7 @@ impl KeptPart {
         alloc: Global,
         end: End,
         topics: Vec<Bytes>,
-        run: Option<Kept<KeptOutput>>,
+        run: Option<Kept<KeptOutputs>>,
     ) -> Result<Told, AllocError>
         requires { AllKept (λ one. ReadsBack (claim_kept topics.items one)) run }
         ensures { IfOk result (IsMade Claims (λ offset r. kept_output topics.items (claim_of r.headers)) end run) }
@@ -137,7 +141,7 @@ impl KeptPart {
     pub fn of_texts(
         alloc: Global,
         end: End,
-        run: Option<Kept<KeptText>>,
+        run: Option<Kept<KeptTexts>>,
     ) -> Result<Told, AllocError>
         requires { AllKept SaysClaim run }
         ensures { IfOk result (IsMade Texts (λ offset r. wanted_record Texts r) end run) }

@@ -4,7 +4,7 @@ ghost use Rattle.std.specs.Prelude.{◌≡◌, ◌<◌, [], length, slice_get, S
 ghost use Rattle.eos_kept.specs.Records.{records_in, ReadBack};
 
 use bytes::Bytes;
-use eos_reading::{KeptOutput, KeptRecord, KeptText};
+use eos_reading::{KeptList, KeptOutputs, KeptRecord, KeptTexts};
 
 /// What is kept of a log's data records, in order.
 #[derive(Drop)]
@@ -14,10 +14,10 @@ pub(crate) enum Records {
     /// Their claims, and the topics that were asked for when they were kept.
     Claims {
         topics: Vec<Bytes>,
-        kept: Vec<KeptOutput>,
+        kept: KeptOutputs,
     },
     /// Their keys, values and claims.
-    Texts(Vec<KeptText>),
+    Texts(KeptTexts),
 }
 
 impl Records {
@@ -40,9 +40,9 @@ impl Records {
         match self {
             Records::Presence(_) => KeptRecord::present(),
             Records::Claims { topics, kept } => {
-                KeptRecord::of_claim(kept[i].claim(topics.as_slice()))
+                KeptRecord::of_claim(kept.at(i).claim(topics.as_slice()))
             }
-            Records::Texts(kept) => kept[i].view(),
+            Records::Texts(kept) => kept.view(i),
         }
     }
 

@@ -11,38 +11,39 @@ use crate::front::{Front, is_at_end};
 use crate::sizes::Sizes;
 use eos_batch::Marker;
 use eos_fold::Stop;
+use eos_reading::KeptList;
 use std::alloc::Global;
 use std::marker::Model;
 
 /// What is kept of a list of segments: their front, of each data record of it what a reading keeps, and how large they are.
 #[derive(Drop)]
-pub struct Kept<T> {
+pub struct Kept<L: KeptList> {
     front: Front,
-    kept: Vec<T>,
+    kept: L,
     sizes: Sizes,
 }
 
-impl<T> Model for Kept<T> {
+impl<L: KeptList> Model for Kept<L> {
     ghost use Rattle.std.specs.Coded.{codes};
     ghost use Rattle.eos_kept.specs.Kept.{KeptView};
     ghost use Rattle.eos_kept.specs.Passing.{HoldsEach};
     ghost use Rattle.eos_kept.specs.contracts.front.Front as of_front;
 
-    ghost Value = { KeptView T };
+    ghost Value = { KeptView L.One };
 
     ghost coded = { Prim.hlevel (codes, of_front.the_row.coded) };
 
-    ghost view = { λ k. record { front = k.front; kept = k.kept.items; sizes = k.sizes } };
+    ghost view = { λ k. record { front = k.front; kept = L.list k.kept; sizes = k.sizes } };
 
-    ghost invariant = { λ k. HoldsEach k.front k.kept.items };
+    ghost invariant = { λ k. HoldsEach k.front (L.list k.kept) };
 }
 
-impl<T> Kept<T> {
+impl<L: KeptList> Kept<L> {
     /// Of this front, with what is kept of its data records, and how large its segments are.
-    pub fn new(front: Front, kept: Vec<T>, sizes: Sizes) -> Kept<T>
-        requires { HoldsEach front kept.items }
+    pub fn new(front: Front, kept: L, sizes: Sizes) -> Kept<L>
+        requires { HoldsEach front (L.list kept) }
         ensures front { result.front ≡ front }
-        ensures kept { result.kept ≡ kept.items }
+        ensures kept { result.kept ≡ L.list kept }
         ensures sizes { result.sizes ≡ sizes }
     {
         Kept { front, kept, sizes }
@@ -57,10 +58,10 @@ impl<T> Kept<T> {
     }
 
     /// What is kept of the front's data records, in order.
-    pub fn kept(&self) -> &[T]
-        ensures { result.now ≡ self.now.kept }
+    pub fn kept(&self) -> &L
+        ensures { L.list result.now ≡ self.now.kept }
     {
-        self.kept.as_slice()
+        &self.kept
     }
 
     /// The front's end markers, in order.
@@ -99,25 +100,25 @@ impl<T> Kept<T> {
     }
 
     /// The front, and what is kept of its data records.
-    pub fn into_parts(self) -> (Front, Vec<T>)
+    pub fn into_parts(self) -> (Front, L)
         ensures front { result.0 ≡ self.front }
-        ensures kept { result.1.items ≡ self.kept }
-        ensures each { HoldsEach result.0 result.1.items }
+        ensures kept { L.list result.1 ≡ self.kept }
+        ensures each { HoldsEach result.0 (L.list result.1) }
     {
         (self.front, self.kept)
     }
 }
 
-impl<T: Drop> Kept<T> {
+impl<L: KeptList + Drop> Kept<L> {
     /// What is kept of two lists of segments of one partition, of which the second follows the first. Where memory is refused, or
     /// a u64 doesn't hold a count, both are handed back.
     pub fn join(
         alloc: Global,
-        mut before: Kept<T>,
-        mut after: Kept<T>,
-    ) -> Result<Kept<T>, (Kept<T>, Kept<T>)>
+        mut before: Kept<L>,
+        mut after: Kept<L>,
+    ) -> Result<Kept<L>, (Kept<L>, Kept<L>)>
         requires { after.front.run.sequenced ≡ before.front.run.sequenced }
-        ensures ok { (keep : ℕ → Record → T) (xs ys : List Segment) → IsKept keep xs before → IsKept keep ys after → IfOk result (IsKept keep (xs ++ ys)) }
+        ensures ok { (keep : ℕ → Record → L.One) (xs ys : List Segment) → IsKept keep xs before → IsKept keep ys after → IfOk result (IsKept keep (xs ++ ys)) }
         ensures kept { IfOk result (λ k. (k.kept ≡ before.kept) ⊎ (k.kept ≡ before.kept ++ after.kept)) }
         ensures sequenced { IfOk result (λ k. k.front.run.sequenced ≡ before.front.run.sequenced) }
         ensures err { IfErr result (λ back. SameKept before back.0 × SameKept after back.1) }
@@ -135,14 +136,12 @@ impl<T: Drop> Kept<T> {
             before.sizes = sizes;
             return Ok(before);
         }
-        if before.kept.reserve(after.kept.len()).is_err() {
+        if before.kept.make_room(&mut after.kept).is_err() {
             return Err((before, after));
         }
         match Front::join(alloc, before.front, after.front) {
             Ok(front) => {
-                let Ok(()) = before.kept.append(&mut after.kept) else {
-                    unreachable!()
-                };
+                before.kept.append(after.kept);
                 Ok(Kept {
                     front,
                     kept: before.kept,

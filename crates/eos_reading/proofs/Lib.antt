@@ -1,3 +1,4 @@
+pub mod TextsPlaced
 pub mod HeadLists
 pub mod KeptLists
 pub mod MarkerHeads

@@ -8,5 +8,6 @@ pub mod steps
 pub mod Outputs
 pub mod Records
 pub mod Names
+pub mod Texts
 pub mod Wanted
 pub mod Named

@@ -3,3 +3,5 @@ pub mod Bytes
 pub mod Fed
 pub mod Forms
 pub mod Keeping
+pub mod TextForms
+pub mod TextPlaces

@@ -8,6 +8,7 @@ ghost use Rattle.eos_reading.specs.Runs.{IsRun};
 ghost use Rattle.eos_reading.specs.steps.Keeping.{Keeps, Grows, IsKept};
 
 use crate::head::{control_head, head_with};
+use crate::kept_list::KeptList;
 use crate::placed::Placed;
 use crate::reading::Reading;
 use bytes::Bytes;
@@ -29,21 +30,20 @@ fn keep_records<K: Reading>(
     alloc: Global,
     reading: &K,
     bytes: &Bytes,
-    kept: &mut Vec<K::Kept>,
+    kept: &mut K::Kept,
     span: Span,
 ) -> Result<(), BatchFault>
     requires inside { (span.begin ≤ span.end) × (span.end ≤ length bytes.now) }
     requires fits { span.offset + span.count ≤ 2 ^ 63 }
-    ensures ok { OnOk result (Keeps (K.kept reading.now) span.offset kept.old.items kept.new.items (records_in bytes.now span.begin span.end span.count)) }
-    ensures grown { Grows kept.old.items kept.new.items }
+    ensures ok { OnOk result (Keeps (K.kept reading.now) span.offset (K.Kept.list kept.old) (K.Kept.list kept.new) (records_in bytes.now span.begin span.end span.count)) }
+    ensures grown { Grows (K.Kept.list kept.old) (K.Kept.list kept.new) }
     ensures err { IfErr result (λ e. Fails e (records_in bytes.now span.begin span.end span.count)) }
 {
     let mut from = span.begin;
     for place in 0..span.count {
         let (lent, next) = lend_record(bytes, from, span.end, place)?;
         let record = Placed::new(lent);
-        let one = reading.keep(alloc, span.offset + u64::from(place), record)?;
-        kept.push(one)?;
+        reading.keep(alloc, kept, span.offset + u64::from(place), record)?;
         from = next;
     }
     if from != span.end {
@@ -57,12 +57,12 @@ fn keep_batch<K: Reading>(
     alloc: Global,
     reading: &K,
     bytes: &Bytes,
-    kept: &mut Vec<K::Kept>,
+    kept: &mut K::Kept,
     at: usize,
 ) -> Result<BatchHead, BatchFault>
     requires { at ≤ length bytes.now }
-    ensures ok { IfOk result (IsKept (K.kept reading.now) bytes.now at kept.old.items kept.new.items) }
-    ensures err { IfErr result (λ e. Fails e (batch_at (drop at bytes.now)) × (kept.new.items ≡ kept.old.items)) }
+    ensures ok { IfOk result (IsKept (K.kept reading.now) bytes.now at (K.Kept.list kept.old) (K.Kept.list kept.new)) }
+    ensures err { IfErr result (λ e. Fails e (batch_at (drop at bytes.now)) × (K.Kept.list kept.new ≡ K.Kept.list kept.old)) }
 {
     let opened = open_batch(alloc, bytes, at)?;
     if opened.batch.is_control() {
@@ -97,9 +97,9 @@ pub fn keep_batches<K: Reading>(
     reading: &K,
     bytes: &Bytes,
     heads: &mut Vec<BatchHead>,
-    kept: &mut Vec<K::Kept>,
+    kept: &mut K::Kept,
 ) -> Result<(usize, BatchFault), AllocError>
-    ensures { IfOk result (λ end. IsRun (K.kept reading.now) bytes.now heads.old.items heads.new.items kept.old.items kept.new.items end.0 end.1) }
+    ensures { IfOk result (λ end. IsRun (K.kept reading.now) bytes.now heads.old.items heads.new.items (K.Kept.list kept.old) (K.Kept.list kept.new) end.0 end.1) }
 {
     are_bytes(bytes.as_slice());
     let mut at = 0;

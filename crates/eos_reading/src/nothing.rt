@@ -9,11 +9,18 @@ use std::alloc::{AllocError, Global};
 pub struct Nothing;
 
 impl Reading for Nothing {
-    type Kept = ();
+    type Kept = Vec<()>;
 
     ghost kept = { λ s offset r. tt };
 
-    fn keep(&self, _alloc: Global, _offset: u64, _placed: Placed<'_>) -> Result<(), AllocError> {
+    fn keep(
+        &self,
+        _alloc: Global,
+        to: &mut Vec<()>,
+        _offset: u64,
+        _placed: Placed<'_>,
+    ) -> Result<(), AllocError> {
+        to.push(())?;
         Ok(())
     }
 }

@@ -1,5 +1,6 @@
 //! The records of an output, of which the claims are wanted.
 
+use crate::kept_outputs::KeptOutputs;
 use crate::output::KeptOutput;
 use crate::{Placed, Reading};
 use bytes::Bytes;
@@ -14,7 +15,7 @@ pub struct Outputs<'a> {
 }
 
 impl<'a> Reading for Outputs<'a> {
-    type Kept = KeptOutput;
+    type Kept = KeptOutputs;
 
     ghost use Rattle.eos_claims.specs.Headers.{claim_of};
     ghost use Rattle.eos_reading.specs.Outputs.{kept_output};
@@ -24,9 +25,12 @@ impl<'a> Reading for Outputs<'a> {
     fn keep(
         &self,
         alloc: Global,
+        to: &mut KeptOutputs,
         _offset: u64,
         placed: Placed<'_>,
-    ) -> Result<KeptOutput, AllocError> {
-        KeptOutput::of(alloc, self.topics, view_claim(placed.view().into_headers()))
+    ) -> Result<(), AllocError> {
+        let headers = placed.view().into_headers();
+        let output = KeptOutput::of(alloc, self.topics, view_claim(headers))?;
+        to.push(output)
     }
 }

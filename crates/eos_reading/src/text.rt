@@ -14,7 +14,7 @@ use std::marker::Model;
 /// What is kept of a record of Kafka's own logs: a copy of its key and its value, in one block, and the claim in its headers, where
 /// there is one. Contracts see it as a `Record` that has no more than that.
 #[derive(Drop)]
-pub struct KeptText {
+pub(crate) struct KeptText {
     /// The key, and behind it the value.
     bytes: Vec<u8>,
     /// How many of the bytes are the key's.
@@ -37,7 +37,7 @@ impl Model for KeptText {
 }
 
 /// A text's bytes; none of a null one.
-fn bytes_of<'a>(text: Option<&'a [u8]>) -> &'a [u8]
+pub(crate) fn bytes_of<'a>(text: Option<&'a [u8]>) -> &'a [u8]
     ensures { result.now ≡ bytes_in (option_map (λ s. s.now) text.entry) }
 {
     match text {
@@ -84,7 +84,7 @@ impl KeptText {
     ///
     /// # Errors
     /// Only want of memory.
-    pub fn new(
+    pub(crate) fn new(
         alloc: Global,
         key: Option<&[u8]>,
         value: Option<&[u8]>,
@@ -105,7 +105,7 @@ impl KeptText {
     }
 
     /// What is kept, lent.
-    pub fn view(&self) -> KeptRecord<'_>
+    pub(crate) fn view(&self) -> KeptRecord<'_>
         ensures { result ≡ self.now }
     {
         let (front, back) = self.bytes.as_slice().split_at(self.split);

@@ -1,6 +1,6 @@
 //! The records of Kafka's own logs, of which keys and values are wanted.
 
-use crate::text::KeptText;
+use crate::kept_texts::KeptTexts;
 use crate::{Placed, Reading};
 use eos_claims::view_claim;
 use std::alloc::{AllocError, Global};
@@ -10,7 +10,7 @@ use std::alloc::{AllocError, Global};
 pub struct Texts;
 
 impl Reading for Texts {
-    type Kept = KeptText;
+    type Kept = KeptTexts;
 
     ghost use Rattle.eos_reading.specs.Records.{wanted_record};
     ghost use Rattle.eos_reading.specs.declared.wanted.Wanted.{Wanted};
@@ -21,12 +21,13 @@ impl Reading for Texts {
     fn keep(
         &self,
         alloc: Global,
+        to: &mut KeptTexts,
         _offset: u64,
         placed: Placed<'_>,
-    ) -> Result<KeptText, AllocError> {
+    ) -> Result<(), AllocError> {
         let record = placed.view();
         let key = record.key();
         let value = record.value();
-        KeptText::new(alloc, key, value, view_claim(record.into_headers()))
+        to.push(alloc, key, value, view_claim(record.into_headers()))
     }
 }

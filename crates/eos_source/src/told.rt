@@ -14,10 +14,10 @@ ghost use Rattle.eos_reading.specs.declared.wanted.Wanted.TheVariants as wants;
 use bytes::Bytes;
 use eos_evidence::End;
 use eos_kept::{Asked, Kept, KeptPart, KeptRun, Told};
-use eos_reading::{KeptOutput, KeptText, Wanted};
+use eos_reading::{KeptOutputs, KeptTexts, Wanted};
 use std::alloc::{AllocError, Global};
 
-fn presence_in(run: Option<KeptRun>) -> Option<Kept<()>>
+fn presence_in(run: Option<KeptRun>) -> Option<Kept<Vec<()>>>
     requires { IsWantedBy wants.Presence run }
     ensures { (topics : List (List ℕ)) (segments : List Segment) → AreKeptRun topics segments run → AreKept (λ offset r. tt) segments result }
 {
@@ -28,7 +28,7 @@ fn presence_in(run: Option<KeptRun>) -> Option<Kept<()>>
     }
 }
 
-fn claims_in(run: Option<KeptRun>) -> Option<Kept<KeptOutput>>
+fn claims_in(run: Option<KeptRun>) -> Option<Kept<KeptOutputs>>
     requires { IsWantedBy wants.Claims run }
     ensures kept { (topics : List (List ℕ)) (segments : List Segment) → AreKeptRun topics segments run → AreKept (λ offset r. kept_output topics (claim_of r.headers)) segments result }
     ensures claims { (topics : List (List ℕ)) → HaveClaims topics run → AllKept (λ one. ReadsBack (claim_kept topics one)) result }
@@ -40,7 +40,7 @@ fn claims_in(run: Option<KeptRun>) -> Option<Kept<KeptOutput>>
     }
 }
 
-fn texts_in(run: Option<KeptRun>) -> Option<Kept<KeptText>>
+fn texts_in(run: Option<KeptRun>) -> Option<Kept<KeptTexts>>
     requires { IsWantedBy wants.Texts run }
     ensures kept { (topics : List (List ℕ)) (segments : List Segment) → AreKeptRun topics segments run → AreKept (λ offset r. wanted_record wants.Texts r) segments result }
     ensures claims { (topics : List (List ℕ)) → HaveClaims topics run → AllKept SaysClaim result }

@@ -1,4 +1,4 @@
-use Rattle.std.proofs.Common.{◌∙◌}
+use Rattle.std.proofs.Common.{◌∙◌, ap}
 use Rattle.eos_fold_file.proofs.FrontSteps.{claims_front}
 use Rattle.eos_fold_file.proofs.fold.read_kept.Goals as goal
 
@@ -7,4 +7,4 @@ returns-in_ok-copies_of-in-Claims-clause-ok g c =
     let e = c.in_ok-front-in-Claims.ensures.ok in
     let front = c.in_ok-front-in-Claims.front in
     let topics = c.new.ensures ∙ c.in_ok-copies_of-in-Claims.ensures in
-    (e.0, e.1, e.2, claims_front c.args.topics.now c.new.result c.in_ok-front-in-Claims.outputs.items c.new-in-Claims.result c.args.begin e.0 front topics c.new-in-Claims.ensures e.3)
+    (e.0, e.1, e.2, claims_front c.args.topics.now c.new.result c.in_ok-front-in-Claims.outputs.items c.new-in-Claims.result c.args.begin e.0 front topics (c.new-in-Claims.ensures ∙ ap (λ outputs. outputs.items) c.into_vec.ensures) e.3)

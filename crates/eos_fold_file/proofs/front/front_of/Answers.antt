@@ -16,5 +16,5 @@ returns g c = λ keep bytes small sealed.
     let n = c.len.result in
     let epochs : c.new.result ≡ entries_of None (take n v.seals) = search rules in
     let checked : c.in_ok-batches.batches ≡ crc32c_of (flat_map checksum_text (take n v.seals)) = search rules in
-    let cut : c.truncate-2.new.self.items ≡ take p.records v.folded.kept = search rules in
+    let cut : g.L.KeptList.list c.truncate-2.new.self ≡ take p.records v.folded.kept = search rules in
     front_is keep c.args.begin bytes v.folded v.seals p _ _ n small sealed.folds sealed.sealed passes (search rules) refl epochs checked stop (search rules) cut

@@ -22,7 +22,7 @@ pub returns-clause-ok : goal.returns-clause-ok
 returns-clause-ok c = λ segments batches front sized count kept.
     let of : c.in-Texts.texts ≡ kept_of (λ (n : ℕ) (r : Record). fold_text_of r) batches = subst (IsKeptOf batches) c.in-Texts.is kept in
     let same : c.as_slice.result.now ≡ c.in-Texts.texts = search rules in
-    let copies = c.in_ok-texts-in-Texts.texts.items in
+    let copies = c.in_ok-texts-in-Texts.texts.list in
     let e = c.new-in-Texts.ensures in
     kept_told (λ (n : ℕ) (r : Record). wanted_record wants.Texts r) segments batches c.new-in-Texts.result c.args.front copies c.args.sizes e.front e.kept e.sizes front sized
     (texts_told batches c.as_slice.result.now copies c.in_ok-texts-in-Texts.ensures (same ∙ of))

@@ -17,7 +17,7 @@ loop-place-init g c =
     let part = slice_range c.args.bytes.now c.args.span.begin c.args.span.end in
     record {
       within = c.requires.inside.0;
-      walked = ([], with_none (records_at (c.args.span.count - 0) 0 part) ∙ ap (λ (n : ℕ). records_at n 0 part) z, sym (append-nil c.args.kept.now.items), refl);
+      walked = ([], with_none (records_at (c.args.span.count - 0) 0 part) ∙ ap (λ (n : ℕ). records_at n 0 part) z, sym (append-nil (g.K.Kept.KeptList.list c.args.kept.now)), refl);
     }
 
 pub returns-in_err-lent-clause-err : goal.returns-in_err-lent-clause-err
@@ -36,15 +36,17 @@ loop-place-preserved g c =
     let total = records_at c.args.span.count 0 (slice_range c.args.bytes.now c.args.span.begin c.args.span.end) in
     let after = slice_range c.args.bytes.now c.in_ok-lent.next c.args.span.end in
     let same : f.found ≡ c.new-record.result = ok_is f.found c.in_ok-lent.lent (sym f.reads ∙ c.in_ok-lent.ensures.lent) ∙ sym c.new-record.ensures in
-    let one : c.in_ok-one.one ≡ keep (c.args.span.offset + length w.0) f.found =
-    c.in_ok-one.ensures ∙ (ap (λ (n : ℕ). keep (c.args.span.offset + n) c.new-record.result) (search rules) ∙ ap (λ (r : Record). keep (c.args.span.offset + c.loop-place.place) r) (sym same) ∙ ap (λ (n : ℕ). keep (c.args.span.offset + n) f.found) (sym w.3)) in
+    let one : keep (c.args.span.offset + c.loop-place.place) c.new-record.result ≡ keep (c.args.span.offset + length w.0) f.found =
+    ap (λ (r : Record). keep (c.args.span.offset + c.loop-place.place) r) (sym same) ∙ ap (λ (n : ℕ). keep (c.args.span.offset + n) f.found) (sym w.3) in
+    let kept : g.K.Kept.KeptList.list c.keep.new.to ≡ g.K.Kept.KeptList.list c.loop-place.kept ++ keep (c.args.span.offset + c.loop-place.place) c.new-record.result ∷ [] =
+    c.in_ok-keep.ensures.ok ∙ ap (λ (n : ℕ). g.K.Kept.KeptList.list c.loop-place.kept ++ keep (c.args.span.offset + n) c.new-record.result ∷ []) (search rules) in
     record {
       within = f.within;
       walked = (
         w.0 ++ f.found ∷ [],
         record_goes_on w.0 c.args.span.count c.loop-place.place (slice_range c.args.bytes.now c.loop-place.from c.args.span.end) f.found after total c.loop-place-test.true f.goes_on w.1,
-        rw (c.in_ok-push.ensures.items, w.2, one, kept_push keep c.args.span.offset w.0 f.found)
-            (append_assoc c.args.kept.now.items (kept_from keep c.args.span.offset w.0) (keep (c.args.span.offset + length w.0) f.found ∷ [])),
+        rw (kept, w.2, one, kept_push keep c.args.span.offset w.0 f.found)
+            (append_assoc (g.K.Kept.KeptList.list c.args.kept.now) (kept_from keep c.args.span.offset w.0) (keep (c.args.span.offset + length w.0) f.found ∷ [])),
         omega (arith, length-append w.0 (f.found ∷ []), w.3),
       );
     }

@@ -10,6 +10,6 @@ invariant-loop-place g l = record {
   within : l.from ≤ l.span.end;
   walked : (rs : List Record)
       × (with_front rs (records_at (l.span.count - l.place) l.place (slice_range l.bytes l.from l.span.end)) ≡ records_at l.span.count 0 (slice_range l.bytes l.span.begin l.span.end))
-      × (l.kept.items ≡ l.fn.kept.items ++ kept_from (g.K.Reading.kept l.reading) l.span.offset rs)
+      × ((g.K.Kept.KeptList.list l.kept) ≡ (g.K.Kept.KeptList.list l.fn.kept) ++ kept_from (g.K.Reading.kept l.reading) l.span.offset rs)
       × (length rs ≡ l.place);
 }

@@ -22,4 +22,4 @@ new-requires g c =
     let v = c.self.inside in
     let f = subst (λ v. IsFolding r.0 r.1 r.2 r.3 r.4 v) (sym c.self.view_is) r.5 in
     let e = c.cut_at.ensures in
-    each_stopped v.front _ v.kept.items _ e.begin e.next e.batches e.markers e.run refl (folded_each r.0 r.1 r.2 r.3 r.4 _ f)
+    each_stopped v.front _ (g.K.Kept.KeptList.list v.kept) _ e.begin e.next e.batches e.markers e.run refl (folded_each r.0 r.1 r.2 r.3 r.4 _ f)

@@ -22,19 +22,13 @@ returns-in-Claims c =
     let i = c.args.i in
     let topics = c.in-Claims.topics.items in
     let xs = c.in-Claims.kept.items in
-    let x = c.index.result.now in
+    let x = c.at.result.now in
     let e : records_in c.args.self.now ≡ map (output_record topics) xs = ap records_in c.in-Claims.is in
-    let lt : i < length xs = omega (arith, c.requires.inside, ap length e, length-map xs (output_record topics)) in
-    let at = slice_get_read xs (length xs) i x refl lt c.index.ensures in
     let same = c.claim.ensures ∙ ap (λ (ts : List (List ℕ)). claim_kept ts x) c.as_slice.ensures.value in
-    ap (λ (rs : List Record). slice_get rs i) e ∙ (lent_at (output_record topics) xs i x at ∙ ap Some (ap (record_of None None) (sym same) ∙ sym c.of_claim.ensures))
+    ap (λ (rs : List Record). slice_get rs i) e ∙ (lent_at (output_record topics) xs i x c.at.ensures ∙ ap Some (ap (record_of None None) (sym same) ∙ sym c.of_claim.ensures))
 
 pub returns-in-Texts : goal.returns-in-Texts
 returns-in-Texts c =
     let i = c.args.i in
-    let xs = c.in-Texts.kept.items in
-    let x = c.index-in-Texts.result.now in
-    let e : records_in c.args.self.now ≡ xs = ap records_in c.in-Texts.is in
-    let lt : i < length xs = omega (arith, c.requires.inside, ap length e) in
-    let at = slice_get_read xs (length xs) i x refl lt c.index-in-Texts.ensures in
-    ap (λ (rs : List Record). slice_get rs i) e ∙ (at ∙ ap Some (sym c.view.ensures))
+    let e : records_in c.args.self.now ≡ c.in-Texts.kept.list = ap records_in c.in-Texts.is in
+    ap (λ (rs : List Record). slice_get rs i) e ∙ c.view.ensures

@@ -15,17 +15,17 @@ returns-then-found-before-clause-ok g c = λ keep xs ys h k.
     kept_between keep xs ys _ _ _ end c.if-found-before.true refl refl refl refl refl refl refl refl (c.in-Some.ensures xs ys) (subst (λ v. IsKept keep xs v) (sym c.before-2.view_is) h) (subst (λ v. IsKept keep ys v) (sym c.after.view_is) k)
 
 pub invariant_of-before-in-Err : goal.invariant_of-before-in-Err
-invariant_of-before-in-Err g c = each_still c.before-2.inside.front _ c.before-2.inside.kept.items _ c.in-Err.ensures.err.0 c.reserve.ensures.items c.before-2.invariant
+invariant_of-before-in-Err g c = each_still c.before-2.inside.front _ (g.L.KeptList.list c.before-2.inside.kept) _ c.in-Err.ensures.err.0 c.make_room.ensures.same c.before-2.invariant
 
-pub invariant_of-after : goal.invariant_of-after
-invariant_of-after g c = each_still c.after.inside.front _ c.after.inside.kept.items _ c.in-Err.ensures.err.1 refl c.after.invariant
+pub invariant_of-after-in-Err : goal.invariant_of-after-in-Err
+invariant_of-after-in-Err g c = each_still c.after.inside.front _ (g.L.KeptList.list c.after.inside.kept) _ c.in-Err.ensures.err.1 c.make_room.ensures.more c.after.invariant
 
-pub returns-in-Ok-append-clause-ok : goal.returns-in-Ok-append-clause-ok
-returns-in-Ok-append-clause-ok g c = λ keep xs ys h k.
-    kept_on keep xs ys _ _ _ (λ bs cs p q. c.in-Ok.ensures.ok xs ys bs cs p q) (c.in-Ok-append.ensures.items ∙ ap (λ ks. ks ++ c.after.inside.kept.items) c.reserve.ensures.items) (c.in-Some.ensures xs ys) (subst (λ v. IsKept keep xs v) (sym c.before-2.view_is) h)
+pub returns-in-Ok-clause-ok : goal.returns-in-Ok-clause-ok
+returns-in-Ok-clause-ok g c = λ keep xs ys h k.
+    kept_on keep xs ys _ _ _ (λ bs cs p q. c.in-Ok.ensures.ok xs ys bs cs p q) (c.append.ensures ∙ (ap (λ ks. ks ++ g.L.KeptList.list c.make_room.new.more) c.make_room.ensures.same ∙ ap (λ ks. g.L.KeptList.list c.before-2.inside.kept ++ ks) c.make_room.ensures.more)) (c.in-Some.ensures xs ys) (subst (λ v. IsKept keep xs v) (sym c.before-2.view_is) h)
     (subst (λ v. IsKept keep ys v) (sym c.after.view_is) k)
 
 pub invariant_of-result : goal.invariant_of-result
 invariant_of-result g c =
-    each_both c.before-2.inside.front c.after.inside.front _ c.before-2.inside.kept.items c.after.inside.kept.items _ (c.in-Ok-append.ensures.items ∙ ap (λ ks. ks ++ c.after.inside.kept.items) c.reserve.ensures.items)
+    each_both c.before-2.inside.front c.after.inside.front _ (g.L.KeptList.list c.before-2.inside.kept) (g.L.KeptList.list c.after.inside.kept) _ (c.append.ensures ∙ (ap (λ ks. ks ++ g.L.KeptList.list c.make_room.new.more) c.make_room.ensures.same ∙ ap (λ ks. g.L.KeptList.list c.before-2.inside.kept ++ ks) c.make_room.ensures.more))
     (λ bs cs h k. c.in-Ok.ensures.along bs cs h k) c.before-2.invariant c.after.invariant

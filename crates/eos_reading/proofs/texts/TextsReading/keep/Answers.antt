@@ -3,5 +3,5 @@ use Rattle.eos_reading.specs.Records.{ReadsBack}
 use Rattle.eos_reading.proofs.ClaimHeaders.{back}
 use Rattle.eos_reading.proofs.texts.TextsReading.keep.Goals as goal
 
-pub new-requires : goal.new-requires
-new-requires c = subst ReadsBack (sym c.view_claim.ensures) (back c.into_headers.result)
+pub push-requires : goal.push-requires
+push-requires c = subst ReadsBack (sym c.view_claim.ensures) (back c.into_headers.result)
