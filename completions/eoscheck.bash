@@ -176,6 +176,9 @@ _eoscheck() {
     --mishap)
       mapfile -t COMPREPLY < <(compgen -W '' -- "$word")
       return ;;
+    --collect)
+      mapfile -t COMPREPLY < <(compgen -W '' -- "$word")
+      return ;;
     --history)
       mapfile -t COMPREPLY < <(compgen -f -- "$word")
       return ;;
@@ -190,7 +193,7 @@ _eoscheck() {
       return ;;
     esac
     case $word in
-    -*) mapfile -t COMPREPLY < <(compgen -W '--seed --events --applications --inputs --outputs --transaction-logs --segment-records --batch-records --chain --lose --repeat --abandon --members --restart-broker --restart-coordinator --abort --switch --switch-at --no-tail --mishap --stop-anywhere --history --labels --schedule --count --swarm --progress -h --help' -- "$word") ;;
+    -*) mapfile -t COMPREPLY < <(compgen -W '--seed --events --applications --inputs --outputs --transaction-logs --segment-records --batch-records --chain --lose --repeat --abandon --members --restart-broker --restart-coordinator --abort --switch --switch-at --no-tail --mishap --stop-anywhere --collect --history --labels --schedule --count --swarm --progress -h --help' -- "$word") ;;
     *) mapfile -t COMPREPLY < <(compgen -d -- "$word") ;;
     esac ;;
   shrink)

@@ -72,6 +72,7 @@ complete -c eoscheck -n '__fish_seen_subcommand_from simulate' -l switch-at -x -
 complete -c eoscheck -n '__fish_seen_subcommand_from simulate' -l no-tail -d 'With --switch-at, nothing after the script shows them'
 complete -c eoscheck -n '__fish_seen_subcommand_from simulate' -l mishap -x -d 'A mistake of an application, once; may be repeated'
 complete -c eoscheck -n '__fish_seen_subcommand_from simulate' -l stop-anywhere -d 'The run ends after its last word, at rest or not'
+complete -c eoscheck -n '__fish_seen_subcommand_from simulate' -l collect -x -d 'A mistake of who copies the logs; may be repeated'
 complete -c eoscheck -n '__fish_seen_subcommand_from simulate' -l history -r -d 'Writes all that happens to this new file, as JSON lines'
 complete -c eoscheck -n '__fish_seen_subcommand_from simulate' -l labels -r -d 'Writes what was done wrong to this new file, as JSON lines'
 complete -c eoscheck -n '__fish_seen_subcommand_from simulate' -l schedule -r -d 'Runs the lines of such a file, in place of a script'

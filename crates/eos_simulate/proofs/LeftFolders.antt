@@ -1,6 +1,6 @@
 -- What was left of a run, put together: just the evidence's files stand in the folder, and the history and the labels at their paths.
 use Rattle.std.specs.Prelude.{⊤}
-use Rattle.std.proofs.Common.{◌≡◌, ◌≢◌, ◌+◌, ℕ, Bool, true, false, List, [], ◌∷◌, ◌++◌, Bor, Option, None, Some, codes, length, is_some, refl, sym, ap, ◌∙◌, subst, arith, append_assoc, length-append}
+use Rattle.std.proofs.Common.{◌≡◌, ◌≢◌, ◌+◌, ℕ, Bool, true, false, List, [], ◌∷◌, ◌++◌, Bor, Option, None, Some, codes, length, is_some, option_map, refl, sym, ap, ◌∙◌, subst, arith, append_assoc, length-append}
 use Rattle.eos_disk.specs.Entries.{Entry, HasBytes}
 use Rattle.eos_disk.specs.Changes.{bare, IsMade}
 use Rattle.eos_disk.specs.Paths.{manifest_path, path_of_end, segment_path}
@@ -24,6 +24,7 @@ use Rattle.eos_history_lines.specs.declared.schedule.Schedule.{Schedule}
 use Rattle.eos_simulate.specs.declared.course.Course.{Course}
 use Rattle.eos_simulate.specs.Folders.{Texts, head_said, wanted_by, IsOfScript, IsOfWords, IsOfLines, IsRun, IsRunBy, IsBegunIf, IsEndedIf, IsBelow, IsApartFrom, IsOther, AreApart, IsThereIf, IsSimulated}
 use Rattle.eos_simulate.specs.HistoryTexts.{IsHistoryIf}
+use Rattle.eos_simulate.specs.MistakeTexts.{collected_lines}
 use Rattle.eos_simulate.specs.LabelTexts.{AreLabelsIf}
 use Rattle.eos_simulate.specs.declared.made.WantedTexts.{WantedTexts}
 use Rattle.eos_simulate.specs.Settings.{config_said, switches_said}
@@ -130,6 +131,22 @@ run_said None words holds left rest e texts is =
 run_said (Some path) words holds left rest e texts is =
     (history_said (is_some words.history) is.0.head is.2.deeds texts.0 is.2.texts_are.0, labels_said (is_some words.labels) is.0.head.config words.stop_anywhere is.2.deeds texts.1 is.2.texts_are.1)
 
+-- the labels that are wanted stay said, whatever is added to them
+said_after : (keeps : Bool) (more : List ℕ) (text all : Option (List ℕ)) → all ≡ option_map (λ t. t ++ more) text → IsSaidIf keeps text → IsSaidIf keeps all
+said_after keeps more text all e said = subst (λ (t : Option (List ℕ)). IsSaidIf keeps t) (sym e) (with_more keeps text said)
+  where
+    with_more : (keeps : Bool) (text : Option (List ℕ)) → IsSaidIf keeps text → IsSaidIf keeps (option_map (λ t. t ++ more) text)
+    with_more true None s = s
+    with_more true (Some t) s = tt
+    with_more false text s = tt
+
+all_said : (words : Simulation) (holds : List ℕ → Entry) (left rest : Option (List ℕ)) (e : EvidenceParts) (texts : Texts) → IsRun words holds left rest e texts → AreSaidIf words texts
+all_said words holds left rest e texts is =
+    let said = run_said words.schedule words holds left rest is.evidence is.said is.run in (
+      subst (λ (t : Option (List ℕ)). IsSaidIf (is_some words.history) t) (sym is.collected.history) said.0,
+      said_after (is_some words.labels) (collected_lines is.mistakes) is.said.1 texts.1 is.collected.labels said.1,
+    )
+
 -- a text that ended stands at its path
 ended_there : (path : Bor (List ℕ)) (file : Option (List ℕ)) (text : List ℕ) (old begun made new : List ℕ → Entry) → IsBegunIf (Some path) file old begun → IsEndedIf file (Some text) made new
     → HasBytes (new path.now) text
@@ -171,7 +188,7 @@ pub simulated : (words : Simulation) (left rest : Option (List ℕ)) (old begun 
 simulated words left rest old begun ready made labelled ended new files texts e begins begins_labels run folder ends_labels ends written back =
     let empty = λ (none : IsEmptyAt old words.folder.now) (apart : AreApart words).
     empty_still words.history words.labels files texts old begun ready made labelled ended words.folder.now apart.0 apart.1 begins begins_labels folder ends_labels ends none in
-    let said = run_said words.schedule words ready left rest e texts run in
+    let said = all_said words ready left rest e texts run in
     record {
       is = record {
         begun = begun;

@@ -28,3 +28,5 @@ mod ScheduleTexts
 mod HistoryLines
 mod ShrunkParts
 mod ShrunkFiles
+pub mod Brought
+pub mod CollectedRuns

@@ -1,6 +1,6 @@
 -- What `simulate` leaves on a disk: the evidence that its run made, as the files of a new folder and no others, and the files of its history
 -- and of its labels.
-use Rattle.std.specs.Prelude.{◌≡◌, ◌≢◌, ⊤, ℕ, Bool, true, false, List, codes, bytes_eq, Option, None, Some, IfSome, is_some}
+use Rattle.std.specs.Prelude.{◌≡◌, ◌≢◌, ⊤, ℕ, Bool, true, false, List, map, codes, bytes_eq, Option, None, Some, IfSome, is_some}
 use Rattle.std.specs.Borrow.{Bor}
 use Rattle.std.specs.Io.KnownBytes.{Consumes, IsAtEnd}
 use Rattle.std.specs.List.{AllZip}
@@ -27,6 +27,9 @@ use Rattle.eos_simulate.specs.Histories.{IsLeftBy, HasBroken, IsAsSaid, acts_of,
 use Rattle.eos_simulate.specs.HistoryTexts.{IsHistoryIf}
 use Rattle.eos_simulate.specs.LabelTexts.{AreLabelsIf}
 use Rattle.eos_simulate.specs.declared.made.WantedTexts.{WantedTexts}
+use Rattle.eos_simulate.specs.declared.mistake.Mistake.{Mistake}
+use Rattle.eos_simulate.specs.CollectedRuns.{IsCollectedAs}
+use Rattle.eos_simulate.specs.MistakeTexts.{mistake_word}
 use Rattle.eos_simulate.specs.Schedules.{HasRightLogs, HasNoFaultInLogs}
 use Rattle.eos_simulate.specs.Settings.{config_said, switches_said}
 
@@ -90,8 +93,14 @@ abbrev pub IsRunBy : Option (Bor (List ℕ)) → Simulation → (List ℕ → En
 IsRunBy None words holds left rest e texts = IsOfWords words e texts
 IsRunBy (Some path) words holds left rest e texts = (s : Schedule) × IsScheduleAt holds path.now left rest s × IsOfLines s words.stop_anywhere (wanted_by words) e texts
 
-abbrev pub IsRun : Simulation → (List ℕ → Entry) → Option (List ℕ) → Option (List ℕ) → EvidenceParts → Texts → Type 0
-IsRun words holds left rest e texts = IsRunBy words.schedule words holds left rest e texts
+-- the run that the words ask for made an evidence, and with the mistakes that they say this one was brought
+pub record IsRun (words : Simulation) (holds : List ℕ → Entry) (left rest : Option (List ℕ)) (e : EvidenceParts) (texts : Texts) : Type 0 where
+  pub evidence : EvidenceParts
+  pub said : Texts
+  pub run : IsRunBy words.schedule words holds left rest evidence said
+  pub mistakes : List Mistake
+  pub words_say : map mistake_word mistakes ≡ map (λ w. w.now) words.mistakes.items
+  pub collected : IsCollectedAs mistakes evidence said e texts
 
 -- ---- the disk
 

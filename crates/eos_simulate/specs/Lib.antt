@@ -6,6 +6,9 @@ pub mod Replays
 pub mod HistoryTexts
 pub mod Labels
 pub mod LabelTexts
+pub mod MistakeTexts
+pub mod Collecting
+pub mod CollectedRuns
 pub mod Folders
 pub mod steps
 pub mod Schedules

@@ -6,6 +6,7 @@ use crate::course::Course;
 use crate::folder::{end_unleft, end_unmade};
 use crate::leaving::{Unleft, Unsimulated, simulate_to};
 use crate::making::SimulationFault;
+use crate::mistake::mistakes_of;
 use crate::recipe::index_line;
 use crate::swarm::{Drawn, drawn_for};
 use eos_cluster::Switch;
@@ -20,6 +21,9 @@ use std::io;
 #[inline(never)]
 pub(crate) fn simulate_folders(rt: &HostRuntime, words: &Simulation<'_>, count: u64) -> u8 {
     if let Err(fault) = Course::of_words(rt.alloc(), words) {
+        return end_unmade(rt, Subject::Only, fault);
+    }
+    if let Err(fault) = mistakes_of(rt.alloc(), words.mistakes.as_slice()) {
         return end_unmade(rt, Subject::Only, fault);
     }
     let mut disk = HostDisk { rt };
@@ -104,6 +108,7 @@ fn own_words<'a>(
         no_tail: own.drawn.no_tail,
         mishaps,
         stop_anywhere: words.stop_anywhere,
+        mistakes: copies(alloc, words.mistakes.as_slice())?,
         history: None,
         labels: Some(own.labels),
         schedule: None,

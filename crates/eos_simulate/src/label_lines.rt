@@ -196,7 +196,7 @@ fn utf8_or_empty(bytes: &[u8]) -> &str
 }
 
 /// A text as JSON.
-fn json_of(alloc: Global, text: &str) -> Result<String, AllocError>
+pub(crate) fn json_of(alloc: Global, text: &str) -> Result<String, AllocError>
     ensures { IfOk result (λ json. string_bytes json ≡ compact_text (string text.now)) }
 {
     let value = value_of(alloc, text)?;

@@ -10,13 +10,15 @@ ghost use Rattle.eos_disk.specs.Writing.{IsEvidenceWritten};
 ghost use Rattle.eos_disk.specs.Written.{IsEmptyAt, HasListings};
 ghost use Rattle.eos_evidence.specs.Evidence.{EvidenceParts};
 ghost use Rattle.eos_text.specs.Writing.{WritesFront};
-ghost use Rattle.eos_simulate.specs.Folders.{IsBegunIf, IsEndedIf, IsOfWords, IsOfLines, IsRun, IsSimulated, wanted_by};
+ghost use Rattle.eos_simulate.specs.Folders.{IsBegunIf, IsEndedIf, IsOfWords, IsOfLines, IsRun, IsRunBy, IsSimulated, wanted_by};
 ghost use Rattle.eos_simulate.specs.Simulated.{wrote_line};
 ghost use Rattle.eos_simulate.specs.declared.leaving.Unsimulated.TheVariants.{CannotPrint};
 
+use crate::collecting::collected;
 use crate::course::Course;
 use crate::made::{Made, WantedTexts, by_lines, by_script};
 use crate::making::{SimulationFault, told_to};
+use crate::mistake::mistakes_of;
 use crate::replaying::ReplayFault;
 use crate::schedule_file::{Unread, read_schedule};
 use eos_disk::{
@@ -144,6 +146,27 @@ fn make_by_lines<D: DiskMut>(
 }
 
 /// Makes the folder, and runs what is asked for.
+fn make_asked<D: DiskMut, R: Read>(
+    alloc: Global,
+    disk: &mut D,
+    words: &Simulation<'_>,
+    input: &mut R,
+    written: &mut Written,
+) -> Result<Made, Unleft>
+    ensures run { IfOk result (λ made. IsRunBy words.now.schedule words.now (D.holds disk.old) (R.remaining input.old) (R.remaining input.new) made.evidence (option_map string_bytes made.history, option_map string_bytes made.labels)) }
+    ensures folder { OnOk result (IsMade (D.holds disk.old) words.now.folder.now (D.holds disk.new)) }
+{
+    let Some(path) = words.schedule else {
+        return make_by_words(alloc, disk, words, written);
+    };
+    match read_schedule(alloc, &*disk, path, input) {
+        Ok(schedule) => make_by_lines(alloc, disk, words, &schedule, written),
+        Err(fault) => Err(Unleft::of_reading(fault)),
+    }
+}
+
+/// Makes the folder, runs what is asked for, and makes the mistakes of who copies its logs.
+#[tactic(auto, using(crate::proofs::CollectedRuns::collected_run))]
 fn make<D: DiskMut, R: Read>(
     alloc: Global,
     disk: &mut D,
@@ -154,12 +177,17 @@ fn make<D: DiskMut, R: Read>(
     ensures run { IfOk result (λ made. IsRun words.now (D.holds disk.old) (R.remaining input.old) (R.remaining input.new) made.evidence (option_map string_bytes made.history, option_map string_bytes made.labels)) }
     ensures folder { OnOk result (IsMade (D.holds disk.old) words.now.folder.now (D.holds disk.new)) }
 {
-    let Some(path) = words.schedule else {
-        return make_by_words(alloc, disk, words, written);
+    let mistakes = match mistakes_of(alloc, words.mistakes.as_slice()) {
+        Ok(mistakes) => mistakes,
+        Err(fault) => return Err(Unleft::Unmade(fault)),
     };
-    match read_schedule(alloc, &*disk, path, input) {
-        Ok(schedule) => make_by_lines(alloc, disk, words, &schedule, written),
-        Err(fault) => Err(Unleft::of_reading(fault)),
+    let made = match make_asked(alloc, disk, words, input, written) {
+        Ok(made) => made,
+        Err(why) => return Err(why),
+    };
+    match collected(alloc, made, mistakes.as_slice()) {
+        Ok(made) => Ok(made),
+        Err(fault) => Err(Unleft::Unmade(fault)),
     }
 }
 

@@ -5,6 +5,9 @@
 //! checker reads it, no fault of the logs stands in it, and there is such evidence wherever there is room.
 #![tactic(auto)]
 
+mod bytes_changed;
+mod collecting;
+mod copied;
 mod course;
 mod cutting;
 mod evidence;
@@ -21,6 +24,7 @@ pub mod laws;
 mod leaving;
 mod made;
 mod making;
+mod mistake;
 mod names;
 mod recipe;
 mod replaying;

@@ -48,6 +48,7 @@ fn recipe(alloc: Global, words: &Simulation<'_>) -> Result<Vec<Value>, AllocErro
     push_flag(alloc, &mut said, "--no-tail", words.no_tail)?;
     push_each(alloc, &mut said, "--mishap", words.mishaps.as_slice())?;
     push_flag(alloc, &mut said, "--stop-anywhere", words.stop_anywhere)?;
+    push_each(alloc, &mut said, "--collect", words.mistakes.as_slice())?;
     Ok(said)
 }
 

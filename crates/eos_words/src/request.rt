@@ -121,11 +121,14 @@ pub struct Simulation<'a> {
     pub mishaps: Vec<&'a str>,
     /// Whether the run ends after its last word, at rest or not.
     pub stop_anywhere: bool,
+    /// The words of the mistakes that are made where its logs are copied.
+    pub mistakes: Vec<&'a str>,
     /// The file that is made of what happens, if one is wanted.
     pub history: Option<&'a str>,
     /// The file that is made of what was done wrong, if one is wanted.
     pub labels: Option<&'a str>,
-    /// The file of what is to happen, if it isn't a script. Then nothing else is said but a history, labels, where it stops, and the folder.
+    /// The file of what is to happen, if it isn't a script. Then nothing else is said but a history, labels, where it
+    /// stops, the mistakes of who copies its logs, and the folder.
     pub schedule: Option<&'a str>,
     /// How many folders are made in the folder, if several are wanted, of the seeds from this one on: from 1 to 999,999. Then no history,
     /// labels or schedule are said.

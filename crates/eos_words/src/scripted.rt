@@ -26,6 +26,7 @@ pub(crate) fn read_simulate<'a>(
         no_tail: inner.get_flag("no-tail"),
         mishaps: read_all(alloc, inner, "mishap")?,
         stop_anywhere: inner.get_flag("stop-anywhere"),
+        mistakes: read_all(alloc, inner, "collect")?,
         history: inner.get_str("history"),
         labels: inner.get_str("labels"),
         schedule: inner.get_str("schedule"),

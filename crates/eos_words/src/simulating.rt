@@ -41,7 +41,7 @@ const SCHEDULED: &[&str] = &[
 /// What each of several folders has of its own, or can't have.
 const SINGLE: &[&str] = &["history", "labels", "schedule"];
 
-static SIMULATE_ARGUMENTS: [Argument; 28] = [
+static SIMULATE_ARGUMENTS: [Argument; 29] = [
     Argument {
         name: "seed",
         help: "What the script is drawn from, 0 to 2^64 - 1",
@@ -169,6 +169,12 @@ static SIMULATE_ARGUMENTS: [Argument; 28] = [
         form: Form::Flag,
     },
     Argument {
+        name: "collect",
+        help: "A mistake of who copies the logs; may be repeated",
+        presence: Presence::Optional,
+        form: Form::Repeated("NAME@TOPIC-N[:..]", ValueParser::NonEmptyString),
+    },
+    Argument {
         name: "history",
         help: "Writes all that happens to this new file, as JSON lines",
         presence: Presence::Optional,
@@ -284,18 +290,33 @@ more, and nothing restarts. FOLDER is what somebody copies from a cluster that
 goes on: transactions are open there, or decided and not yet ended, and `check`
 says no, by 1.11 OpenAtEnd or 2.5 Unfinished. A --switch then needs --switch-at.
 
+With --collect a mistake is made where the logs are copied and the ends read,
+after the run; BASE is the first offset of a file, as its name has it, and AT is
+a byte of it. A mistake that finds nothing to be made in is refused:
+
+  lost-segment@TOPIC-N:BASE            the file isn't copied
+  cut-segment@TOPIC-N:BASE             its last byte isn't
+  renamed-segment@TOPIC-N:BASE:NAME    it gets another name
+  two-replicas@TOPIC-N                 the first file is that of another replica
+  wrong-end@TOPIC-N:END                the end is read too high or too low
+  forgotten@TOPIC-N                    the partition is left out
+  doubled@TOPIC-N:NUMBER               it is there under another number too
+  turned-byte@TOPIC-N:BASE:AT:VALUE    a byte of the file is another
+  rewritten-byte@TOPIC-N:BASE:AT:VALUE and the batch's checksum is made right
+
 With --history all that happens is written to FILE, which must not be there, as
 JSON lines (docs/SIMULATOR.md): what the cluster is, each event with its reply,
 and the totals. --schedule runs the lines of such a file, so that they can be
 cut, edited and run again. It says what the other options would say but for
---history, --labels and --stop-anywhere, so none of them goes with it; a reply
-may be left out, and one that comes out differently is told with its number
-(status 1).
+--history, --labels, --stop-anywhere and --collect, so none of them goes with
+it; a reply may be left out, and one that comes out differently is told with its
+number (status 1).
 
 With --labels what was done wrong is written to FILE, which must not be there:
 a JSON line for each mishap, each message that was lost or repeated, and each
-rule that was broken where a message was taken, with its place in the log; and
-for a mishap and a broken rule the codes of the faults that may follow.
+rule that was broken where a message was taken, with its place in the log, and
+for each mistake of --collect; and but for messages the codes of the faults that
+may follow.
 
 With --count so many folders are made in FOLDER, which must not be there: 000001
 and so on, of the seeds from S on. Each is as its own words would make it, with
@@ -313,6 +334,7 @@ Examples:
   eoscheck simulate --seed 7 --events 200 FOLDER
   eoscheck simulate --seed 7 --events 200 --switch no-fence FOLDER
   eoscheck simulate --seed 7 --events 200 --chain --mishap lost-output FOLDER
+  eoscheck simulate --seed 7 --events 200 --collect forgotten@out-1 FOLDER
   eoscheck simulate --seed 7 --events 200 --history history.jsonl FOLDER
   eoscheck simulate --schedule history.jsonl FOLDER
   eoscheck simulate --count 100 --seed 1 --events 200 FOLDER >index.jsonl

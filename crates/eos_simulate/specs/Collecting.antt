@@ -1,0 +1,141 @@
+-- What somebody brings who copied the log directories of a cluster and read the ends of its partitions, and made mistakes: files and ends,
+-- as a function of those that were there. Source: Kafka's documentation, "Log" (a partition's folder is TOPIC-N, a segment's file has the
+-- name of its first offset) and "Record Batch" (its checksum); what goes wrong is what people who copied log directories have told.
+use Rattle.std.specs.Prelude.{◌≡◌, ℕ, ℤ, pos, ◌+◌, ◌-◌, List, [], ◌∷◌, ◌++◌, Bool, true, false, not, ◌&&◌, ◌||◌, ◌==◌, if◌then◌else◌, nat_lt, length, take, drop, slice_index, flat_map, bytes_eq, Option, None, Some, option_map, Ok}
+use Rattle.std.specs.List.{list_any}
+use Rattle.std.specs.Ordering.{int_eq}
+use Rattle.eos_wire.specs.Crc.{crc32c_of}
+use Rattle.eos_wire.specs.Numbers.{u32_text}
+use Rattle.eos_evidence.specs.declared.ends.End.{End}
+use Rattle.eos_evidence.specs.declared.segment.Segment.{Segment}
+use Rattle.eos_evidence.specs.SpecFields.{SpecFields, accepted}
+use Rattle.eos_evidence.specs.Evidence.{EvidenceParts, segments_of, without_segments}
+use Rattle.eos_machine.specs.Evidences.{adding}
+use Rattle.eos_simulate.specs.declared.copied.Copied.{Copied}
+use Rattle.eos_simulate.specs.declared.mistake.Mistake.{Mistake}
+use Rattle.eos_simulate.specs.declared.mistake.Turned.{Turned}
+use Rattle.eos_simulate.specs.declared.mistake.What.{What}
+use Rattle.eos_simulate.specs.declared.mistake.What.TheVariants.{LostSegment, CutSegment, RenamedSegment, TurnedByte, RewrittenByte, TwoReplicas, WrongEnd, Forgotten, Doubled}
+
+-- a file, or the end, of the partition in which the mistake is made
+abbrev pub is_file_of : Mistake → Segment → Bool
+is_file_of m s = bytes_eq s.topic m.topic.now && int_eq s.partition m.partition
+
+abbrev pub is_end_of : Mistake → End → Bool
+is_end_of m e = bytes_eq e.topic m.topic.now && int_eq e.partition m.partition
+
+-- ---- bytes
+
+abbrev pub without_last : List ℕ → List ℕ
+without_last bytes = take (length bytes - 1) bytes
+
+abbrev pub with_byte : ℕ → ℕ → List ℕ → List ℕ
+with_byte at value bytes = if nat_lt at (length bytes) then take at bytes ++ value ∷ drop (at + 1) bytes else bytes
+
+-- the checksum of a batch stands at its byte 17, and is that of the bytes from 21 on; here those to the end of the file
+abbrev pub sealed : List ℕ → List ℕ
+sealed bytes = if nat_lt (length bytes) 21 then bytes else take 17 bytes ++ (u32_text (crc32c_of (drop 21 bytes)) ++ drop 21 bytes)
+
+-- what a replica has in its file that never began another one
+abbrev pub all_bytes : Mistake → List Segment → List ℕ
+all_bytes m files = flat_map (λ s. if is_file_of m s then s.bytes else []) files
+
+-- ---- files and ends
+
+-- what comes of a file of the partition, of which these are all files
+abbrev pub own_file : Mistake → List Segment → Segment → What → List Segment
+own_file m files s (LostSegment base) = if int_eq s.base base then [] else s ∷ []
+own_file m files s (CutSegment base) = (if int_eq s.base base then record s { bytes = without_last s.bytes } else s) ∷ []
+own_file m files s (RenamedSegment base name) = (if int_eq s.base base then record s { base = name } else s) ∷ []
+own_file m files s (TurnedByte t) = (if int_eq s.base t.base then record s { bytes = with_byte t.at t.value s.bytes } else s) ∷ []
+own_file m files s (RewrittenByte t) = (if int_eq s.base t.base then record s { bytes = sealed (with_byte t.at t.value s.bytes) } else s) ∷ []
+own_file m files s TwoReplicas = (if int_eq s.base (pos 0) then record s { bytes = all_bytes m files } else s) ∷ []
+own_file m files s (WrongEnd end) = s ∷ []
+own_file m files s Forgotten = []
+own_file m files s (Doubled number) = s ∷ record s { partition = number } ∷ []
+
+-- what comes of its end
+abbrev pub own_end : End → What → List End
+own_end e (LostSegment base) = e ∷ []
+own_end e (CutSegment base) = e ∷ []
+own_end e (RenamedSegment base name) = e ∷ []
+own_end e (TurnedByte t) = e ∷ []
+own_end e (RewrittenByte t) = e ∷ []
+own_end e TwoReplicas = e ∷ []
+own_end e (WrongEnd end) = record e { end = end } ∷ []
+own_end e Forgotten = []
+own_end e (Doubled number) = e ∷ record e { partition = number } ∷ []
+
+abbrev pub file_after : Mistake → List Segment → Segment → List Segment
+file_after m files s = if is_file_of m s then own_file m files s m.what else s ∷ []
+
+abbrev pub end_after : Mistake → End → List End
+end_after m e = if is_end_of m e then own_end e m.what else e ∷ []
+
+abbrev pub after_mistake : Mistake → Copied → Copied
+after_mistake m c = record { ends = flat_map (end_after m) c.ends; files = flat_map (file_after m c.files) c.files }
+
+-- ---- whether a mistake can be made
+
+-- another byte would stand there
+abbrev pub turns : Turned → Segment → Bool
+turns t s = int_eq s.base t.base && (nat_lt t.at (length s.bytes) && not (slice_index s.bytes t.at == t.value))
+
+-- at this file of the partition
+abbrev pub meets_file : Segment → What → Bool
+meets_file s (LostSegment base) = int_eq s.base base
+meets_file s (CutSegment base) = int_eq s.base base
+meets_file s (RenamedSegment base name) = int_eq s.base base && not (int_eq name base)
+meets_file s (TurnedByte t) = turns t s
+meets_file s (RewrittenByte t) = turns t s
+meets_file s TwoReplicas = not (int_eq s.base (pos 0))
+meets_file s (WrongEnd end) = false
+meets_file s Forgotten = false
+meets_file s (Doubled number) = false
+
+-- at its end
+abbrev pub meets_end : End → What → Bool
+meets_end e (LostSegment base) = false
+meets_end e (CutSegment base) = false
+meets_end e (RenamedSegment base name) = false
+meets_end e (TurnedByte t) = false
+meets_end e (RewrittenByte t) = false
+meets_end e TwoReplicas = false
+meets_end e (WrongEnd end) = not (int_eq e.end end)
+meets_end e Forgotten = true
+meets_end e (Doubled number) = true
+
+abbrev pub meets_a_file : Mistake → List Segment → Bool
+meets_a_file m files = list_any (λ s. is_file_of m s && meets_file s m.what) files
+
+abbrev pub meets_an_end : Mistake → List End → Bool
+meets_an_end m ends = list_any (λ e. is_end_of m e && meets_end e m.what) ends
+
+abbrev pub can_make : Mistake → Copied → Bool
+can_make m c = meets_a_file m c.files || meets_an_end m c.ends
+
+-- ---- the evidence
+
+abbrev pub copied_from : EvidenceParts → Copied
+copied_from e = record { ends = e.spec.ends; files = segments_of e.partitions }
+
+-- what is brought after these mistakes, one after the other; nothing where one can't be made
+unfoldable pub after_mistakes : List Mistake → Copied → Option Copied
+after_mistakes [] c = Some c
+after_mistakes (m ∷ ms) c = if can_make m c then after_mistakes ms (after_mistake m c) else None
+
+-- the evidence that is made of it
+pub record IsMadeOf (e : EvidenceParts) (c : Copied) (made : EvidenceParts) : Type 0 where
+  pub spec : SpecFields
+  pub accepted : accepted (record e.spec { ends = c.ends }) ≡ Ok spec
+  pub added : adding (without_segments spec) c.files ≡ Ok made
+
+pub record IsCollectedWrong (ms : List Mistake) (e made : EvidenceParts) : Type 0 where
+  pub copied : Copied
+  pub brought : after_mistakes ms (copied_from e) ≡ Some copied
+  pub made_of : IsMadeOf e copied made
+
+-- without a mistake the evidence itself is brought
+abbrev pub IsCollected : List Mistake → EvidenceParts → EvidenceParts → Type 0
+IsCollected [] e made = made ≡ e
+IsCollected (m ∷ ms) e made = IsCollectedWrong (m ∷ ms) e made
