@@ -16,12 +16,12 @@ ghost use Rattle.eos_source.specs.Refusals.{AreOpened};
 ghost use Rattle.eos_source.specs.Saying.{known_at, StandsAt};
 
 use crate::answer::{Answer, Pieces, Wanted, answer_source};
+use crate::refused::refusal_of;
 use eos_disk::{
     ChangeFault, Disk, DiskMut, FolderFault, NewFile, Shape, Watch, begin_file, drop_file,
     end_file, read_shape,
 };
 use eos_source::FolderSource;
-use eos_source_check::Unlisted;
 use eos_text::finish;
 use std::alloc::Global;
 use std::io::Write;
@@ -84,10 +84,7 @@ fn answer_shape<D: Disk, T: Watch, R: Threads + Sync>(
     };
     match answer_source(alloc, threads, pieces, wanted) {
         Ok(answer) => Ok(answer),
-        Err(Unlisted::Refused(fault)) => Err(fault),
-        Err(Unlisted::Fold(piece)) => Err(source.needs_log(alloc, piece)),
-        Err(Unlisted::Changed(piece)) => Err(source.changed(alloc, piece)),
-        Err(Unlisted::OutOfMemory) => Err(FolderFault::OutOfMemory),
+        Err(why) => Err(refusal_of(alloc, &source, why)),
     }
 }
 

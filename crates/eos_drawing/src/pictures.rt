@@ -17,6 +17,7 @@ ghost use Rattle.eos_drawing.specs.steps.Pictures.{IsTextBy, AreTextsBy, ArePict
 ghost use Rattle.eos_drawing.specs.steps.Undrawn.{IsAfter, IsUndrawn, IsUndrawnOf};
 
 use crate::answer::{Pieces, Wanted, drawn_of};
+use crate::refused::refusal_of;
 use eos_base::Workers;
 use eos_disk::{Disk, FolderFault, Shape, Watch, read_shape};
 use eos_source::{FolderSource, Source};
@@ -187,10 +188,7 @@ fn of_shape<D: Disk, T: Watch, R: Threads + Sync>(
     };
     match of_source(alloc, threads, pieces, first) {
         Ok(texts) => Ok(texts),
-        Err(Unlisted::Refused(fault)) => Err(fault),
-        Err(Unlisted::Fold(piece)) => Err(source.needs_log(alloc, piece)),
-        Err(Unlisted::Changed(piece)) => Err(source.changed(alloc, piece)),
-        Err(Unlisted::OutOfMemory) => Err(FolderFault::OutOfMemory),
+        Err(why) => Err(refusal_of(alloc, &source, why)),
     }
 }
 

@@ -159,14 +159,15 @@ by_name p name e =
     let number : p.number ≡ name.partition = int_exact p.number name.partition (is_tied (int_cmp p.number name.partition) r.1) in
     λ i. record { topic = topic i; partition = number i }
 
-is_other : (b : Bool) → (b ≡ true → ⊥) → b ≡ false
-is_other true never = absurd (never refl)
-is_other false never = refl
+never : false ≡ true → ⊥
+never e = absurd cc
 
--- a partition of this name, by what the two answers of a test say
-pub named_is : (r : Bool) (p : PartLog) (name : PartitionName) → (r ≡ true → part_name p ≡ name) → (r ≡ false → part_name p ≢ name) → r ≡ is_of_name (Some name) p
-named_is true p name same apart = sym (is_own p name (same refl))
-named_is false p name same apart = sym (is_other (is_of_name (Some name) p) (λ e. apart refl (by_name p name e)))
+-- a partition has this name, or not, by the answer of a test
+pub same_name : (r : Bool) (p : PartLog) (name : PartitionName) → r ≡ is_of_name (Some name) p → r ≡ true → part_name p ≡ name
+same_name r p name is e = by_name p name (sym is ∙ e)
+
+pub other_name : (r : Bool) (p : PartLog) (name : PartitionName) → r ≡ is_of_name (Some name) p → r ≡ false → part_name p ≢ name
+other_name r p name is e = λ same. never (sym e ∙ (is ∙ is_own p name same))
 
 pub flat_next : {X Y : Type 0} (f : X → List Y) (xs : List X) (i : ℕ) (d : X) (old now all : List Y) → i < length xs → now ≡ old ++ f (get_or xs i d) → old ++ flat_map f (drop i xs) ≡ all
     → now ++ flat_map f (drop (i + 1) xs) ≡ all

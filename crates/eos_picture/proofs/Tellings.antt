@@ -162,11 +162,10 @@ all_rows_passed columns all rows of times before i now those same le p =
 
 -- ---- the whole
 
--- what was drawn at first, the heads, the rows, the legend, and what lies below all
-pub all_told : (columns : List Column) (rows : List Row) (times : List Times) (first head heads body whole ground below shapes : List (List ℕ)) → first ≡ [] → head ≡ first → heads ≡ head
-    → (texts : List (List ℕ)) × (body ≡ heads ++ texts) × AreRowsTold columns rows times texts → whole ≡ body → ground ≡ [] → below ≡ ground → shapes ≡ below ++ whole → AreRowsTold columns rows times shapes
-all_told columns rows times first head heads body whole ground below shapes none a b t c empty d e =
+-- what was drawn at first, the heads, the rows, and the legend
+pub all_told : (columns : List Column) (rows : List Row) (times : List Times) (first head heads body whole : List (List ℕ)) → first ≡ [] → head ≡ first → heads ≡ head
+    → (texts : List (List ℕ)) × (body ≡ heads ++ texts) × AreRowsTold columns rows times texts → whole ≡ body → AreRowsTold columns rows times whole
+all_told columns rows times first head heads body whole none a b t c =
     let nothing : heads ≡ [] = b ∙ (a ∙ none) in
-    let one : body ≡ t.0 = t.1 ∙ ap (λ (xs : List (List ℕ)). xs ++ t.0) nothing in
-    let all : shapes ≡ t.0 = e ∙ (ap (λ (xs : List (List ℕ)). xs ++ whole) (d ∙ empty) ∙ (c ∙ one)) in
+    let all : whole ≡ t.0 = c ∙ (t.1 ∙ ap (λ (xs : List (List ℕ)). xs ++ t.0) nothing) in
     subst (λ (xs : List (List ℕ)). AreRowsTold columns rows times xs) (sym all) t.2

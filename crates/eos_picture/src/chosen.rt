@@ -3,59 +3,50 @@
 ghost use Rattle.std.specs.Prelude.{◌≡◌, ◌<◌, ◌≤◌, ◌++◌, ◌∷◌, [], ◌*◌, ℕ, map, take, drop, length, slice_get, IfOk, OnOk, IfSome};
 ghost use Rattle.std.specs.List.{flat_map, range_with_len};
 ghost use Rattle.std.specs.Option.{option_copied};
-ghost use Rattle.eos_picture.specs.Order.{is_of_name, near_to};
-ghost use Rattle.eos_picture.specs.Window.{at_place, around_in, AreAround, AreShown};
+ghost use Rattle.eos_picture.specs.Order.{near_to};
+ghost use Rattle.eos_picture.specs.Window.{at_place, around_in, named_by, AreAround, AreShown};
 ghost use Rattle.eos_picture.specs.steps.Standing.{IsNearYet, AreNoNearer};
 
 use crate::mark::{Column, Decided};
+use crate::named::is_named_by;
 use crate::order::{order_of, position_of, stand_of};
-use crate::window::is_named;
-use eos_base::PartitionName;
 use eos_kept::Part;
 use eos_table::is_of_transaction_log;
+use eos_verdict::Fault;
 use std::alloc::{AllocError, Global};
 
 /// What is wanted beside the transaction in the middle.
 #[derive(Clone, Copy)]
 pub(crate) struct Wanted<'a> {
-    /// The fault's partition, if it names one.
-    pub name: Option<&'a PartitionName>,
+    /// The fault, if there is one, which may name a partition.
+    pub fault: Option<&'a Fault>,
     /// How many on each side.
     pub around: usize,
 }
 
 // ---- the partition that is shared
 
-fn is_of(part: &Part, name: Option<&PartitionName>) -> bool
-    ensures { result ≡ is_of_name (option_copied name.entry) part.now }
-{
-    match name {
-        None => false,
-        Some(name) => is_named(part, name),
-    }
-}
-
 /// How near a partition is to the fault: 0 where the transaction doesn't stand there.
-fn nearness(part: &Part, name: Option<&PartitionName>, column: &Column) -> u8
-    ensures { result ≡ near_to (option_copied name.entry) column.now part.now }
+fn nearness(part: &Part, fault: Option<&Fault>, column: &Column) -> u8
+    ensures { result ≡ near_to (named_by (option_copied fault.entry)) column.now part.now }
 {
     if stand_of(part, column).is_none() {
         return 0;
     }
-    if is_of(part, name) {
+    if is_named_by(fault, part) {
         return 3;
     }
     if is_of_transaction_log(part) { 1 } else { 2 }
 }
 
 /// The partition nearest to the fault in which the transaction stands.
-fn nearest_of(logs: &[Part], name: Option<&PartitionName>, column: &Column) -> Option<usize>
-    ensures { (most : ℕ) × IsNearYet logs.now (option_copied name.entry) column.now result most × AreNoNearer logs.now (option_copied name.entry) column.now most }
+fn nearest_of(logs: &[Part], fault: Option<&Fault>, column: &Column) -> Option<usize>
+    ensures { (most : ℕ) × IsNearYet logs.now (named_by (option_copied fault.entry)) column.now result most × AreNoNearer logs.now (named_by (option_copied fault.entry)) column.now most }
 {
     let mut nearest = None;
     let mut most = 0u8;
     for i in 0..logs.len() {
-        let near = nearness(&logs[i], name, column);
+        let near = nearness(&logs[i], fault, column);
         if near <= most {
             continue;
         }
@@ -75,43 +66,27 @@ fn alone(alloc: Global, place: usize) -> Result<Vec<usize>, AllocError>
     Ok(places)
 }
 
-/// The columns of an order behind the first ones, of which there are so many.
-fn without_first(
-    alloc: Global,
-    order: Vec<(u64, usize)>,
-    count: usize,
-) -> Result<Vec<usize>, AllocError>
-    ensures { IfOk result (λ places. places.items ≡ map (λ (s : ℕ × ℕ). s.1) (drop count order.items)) }
-{
-    let mut places = Vec::new(alloc);
-    let mut left = count;
-    for stand in order {
-        if left > 0 {
-            left -= 1;
-        } else {
-            places.push(stand.1)?;
-        }
-    }
-    Ok(places)
-}
-
 /// Those of an order around this one, so many on each side.
 fn cut(
     alloc: Global,
-    order: Vec<(u64, usize)>,
+    order: &[(u64, usize)],
     middle: usize,
     around: usize,
 ) -> Result<Vec<usize>, AllocError>
-    requires { middle < length order.items }
-    ensures { IfOk result (λ places. places.items ≡ map (λ (s : ℕ × ℕ). s.1) (around_in around middle order.items)) }
+    requires { middle < length order.now }
+    ensures { IfOk result (λ places. places.items ≡ map (λ (s : ℕ × ℕ). s.1) (around_in around middle order.now)) }
 {
-    let mut order = order;
     let end = middle
         .saturating_add(around)
         .saturating_add(1)
         .min(order.len());
-    order.truncate(end);
-    without_first(alloc, order, middle.saturating_sub(around))
+    let front = &order[..end];
+    let shown = &front[middle.saturating_sub(around)..];
+    let mut places = Vec::new(alloc);
+    for stand in shown {
+        places.push(stand.1)?;
+    }
+    Ok(places)
 }
 
 fn all_columns(alloc: Global, count: usize) -> Result<Vec<usize>, AllocError>
@@ -143,15 +118,15 @@ fn columns_around(
     middle: usize,
 ) -> Result<Vec<usize>, AllocError>
     requires { middle < length columns.now }
-    ensures { IfOk result (λ places. AreAround logs.now columns.now (option_copied wanted.entry.name) middle (slice_get columns.now middle) wanted.entry.around places.items) }
+    ensures { IfOk result (λ places. AreAround logs.now columns.now (named_by (option_copied wanted.entry.fault)) middle (slice_get columns.now middle) wanted.entry.around places.items) }
 {
-    let Some(nearest) = nearest_of(logs, wanted.name, &columns[middle]) else {
+    let Some(nearest) = nearest_of(logs, wanted.fault, &columns[middle]) else {
         return alone(alloc, middle);
     };
     let order = order_of(alloc, columns, &logs[nearest])?;
     match position_of(order.as_slice(), middle) {
         None => alone(alloc, middle),
-        Some(at) => cut(alloc, order, at, wanted.around),
+        Some(at) => cut(alloc, order.as_slice(), at, wanted.around),
     }
 }
 
@@ -167,7 +142,7 @@ pub(crate) fn columns_shown(
     middle: Option<usize>,
 ) -> Result<Vec<usize>, AllocError>
     requires { IfSome middle (λ m. m < length columns.now) }
-    ensures { IfOk result (λ places. AreShown logs.now columns.now (option_copied wanted.entry.name) middle wanted.entry.around places.items) }
+    ensures { IfOk result (λ places. AreShown logs.now columns.now (named_by (option_copied wanted.entry.fault)) middle wanted.entry.around places.items) }
 {
     match middle {
         None => first_columns(alloc, columns.len(), wanted.around),

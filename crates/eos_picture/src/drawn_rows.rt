@@ -10,8 +10,8 @@ use crate::canvas::{Canvas, moved};
 use crate::cells::{
     Cell, DrawnRow, Room, cells_of, column_in, empty_cells, offset_of, pitch_of, put_mark, room_of,
 };
-use crate::labels::{commit_label, number_label, passed_label};
-use crate::plan::{CHARACTER, Plan, row_name};
+use crate::labels::{commit_label, name_label, number_label, passed_label};
+use crate::plan::{CHARACTER, NAME, Plan};
 use crate::told::{Marked, time_at, told_of};
 use crate::{Column, Look, Mark, Point, Row, Sign, Size};
 use eos_batch::Kind;
@@ -30,32 +30,18 @@ const DIAMOND: Size = Size {
 
 // ---- how marks look
 
-fn look_of(fate: Fate) -> Look {
-    match fate {
-        Fate::Plain | Fate::Committed => Look::Committed,
-        Fate::Aborted => Look::Aborted,
-        Fate::Waiting(_) => Look::Open,
-    }
-}
-
-fn look_of_kind(kind: Kind) -> Look {
+fn kind_look(kind: Kind, commit: Look, abort: Look) -> Look {
     match kind {
-        Kind::Commit => Look::Committed,
-        Kind::Abort => Look::Aborted,
+        Kind::Commit => commit,
+        Kind::Abort => abort,
     }
 }
 
-fn marker_look(kind: Kind) -> Look {
-    match kind {
-        Kind::Commit => Look::CommitMarker,
-        Kind::Abort => Look::AbortMarker,
-    }
-}
-
-fn passed_look(fate: Fate) -> Look {
+fn fate_look(fate: Fate, held: Look, aborted: Look, open: Look) -> Look {
     match fate {
-        Fate::Plain | Fate::Committed => Look::Passed,
-        Fate::Aborted | Fate::Waiting(_) => Look::NotPassed,
+        Fate::Plain | Fate::Committed => held,
+        Fate::Aborted => aborted,
+        Fate::Waiting(_) => open,
     }
 }
 
@@ -63,10 +49,14 @@ fn passed_look(fate: Fate) -> Look {
 fn sign_look(sign: &Sign, is_open: bool) -> Look {
     match sign {
         Sign::Record { .. } | Sign::Commit { .. } if is_open => Look::Open,
-        Sign::Decision { kind, .. } => look_of_kind(*kind),
-        Sign::Record { fate, .. } | Sign::Commit { fate, .. } => look_of(*fate),
-        Sign::Passed { fate, .. } => passed_look(*fate),
-        Sign::Marker { kind, .. } => marker_look(*kind),
+        Sign::Decision { kind, .. } => kind_look(*kind, Look::Committed, Look::Aborted),
+        Sign::Record { fate, .. } | Sign::Commit { fate, .. } => {
+            fate_look(*fate, Look::Committed, Look::Aborted, Look::Open)
+        }
+        Sign::Passed { fate, .. } => {
+            fate_look(*fate, Look::Passed, Look::NotPassed, Look::NotPassed)
+        }
+        Sign::Marker { kind, .. } => kind_look(*kind, Look::CommitMarker, Look::AbortMarker),
         Sign::Missing(_) => Look::Missing,
         Sign::Spot(_) => Look::Page,
     }
@@ -311,7 +301,7 @@ fn draw_frame(
         x: 10,
         y: place.top.saturating_add(18),
     };
-    let name = row_name(canvas.alloc, row)?;
+    let name = name_label(canvas.alloc, &row.name, NAME)?;
     canvas.text(at, name, Look::Words)?;
     let from = Point { x: 10, y: bottom };
     let to = Point {

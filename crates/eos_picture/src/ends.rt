@@ -34,9 +34,11 @@ fn is_end(marker: &Marker, end: End) -> bool
     marker.producer == end.producer && marker.epoch == end.epoch && is_kind(marker.kind, end.kind)
 }
 
-fn count_in(markers: &[Marker], end: End) -> u64
-    ensures { result ≡ ends markers.now end.producer end.epoch end.kind }
+/// How many end markers of a partition say this.
+pub(crate) fn count_ends(part: &Part, end: End) -> u64
+    ensures { result ≡ ends part.now.markers end.producer end.epoch end.kind }
 {
+    let markers = part.markers();
     let mut count = 0u64;
     for marker in markers {
         if is_end(marker, end) {
@@ -46,34 +48,22 @@ fn count_in(markers: &[Marker], end: End) -> u64
     count
 }
 
-/// How many end markers of a partition say this.
-pub(crate) fn count_ends(part: &Part, end: End) -> u64
-    ensures { result ≡ ends part.now.markers end.producer end.epoch end.kind }
-{
-    count_in(part.markers(), end)
-}
-
-fn count_kind(part: &Part, producer: i64, epoch: i16, kind: Kind) -> u64
-    ensures { result ≡ ends part.now.markers producer epoch kind }
-{
-    count_ends(
-        part,
-        End {
-            producer,
-            epoch,
-            kind,
-        },
-    )
-}
-
 /// Whether there is no end marker of this producer id and epoch.
 pub(crate) fn has_no_end(part: &Part, producer: i64, epoch: i16) -> bool
     ensures yes { result ≡ true → HasNone part.now.markers producer epoch }
     ensures no { result ≡ false → HasNone part.now.markers producer epoch → ⊥ }
 {
-    let commits = count_kind(part, producer, epoch, Kind::Commit);
-    let aborts = count_kind(part, producer, epoch, Kind::Abort);
-    commits == 0 && aborts == 0
+    let commit = End {
+        producer,
+        epoch,
+        kind: Kind::Commit,
+    };
+    let abort = End {
+        producer,
+        epoch,
+        kind: Kind::Abort,
+    };
+    count_ends(part, commit) == 0 && count_ends(part, abort) == 0
 }
 
 /// Whether what is found is this producer id and epoch.

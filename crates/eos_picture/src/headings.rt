@@ -79,13 +79,6 @@ pub(crate) fn heading_of(
     })
 }
 
-/// Draws what stands above the column of what is of none of the transactions.
-pub(crate) fn draw_other_heading(canvas: &mut Canvas, at: Point) -> Result<(), AllocError>
-    ensures { OnOk result (tellings canvas.new.shapes.items ≡ tellings canvas.old.shapes.items) }
-{
-    canvas.words(moved(at, 6, 28), "of none of these", Look::Remark)
-}
-
 /// Draws it at the upper left corner of the column.
 pub(crate) fn draw_heading(
     canvas: &mut Canvas,

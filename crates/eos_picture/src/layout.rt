@@ -1,12 +1,12 @@
 //! The drawing of a picture.
 
-ghost use Rattle.std.specs.Prelude.{◌≡◌, ◌++◌, ◌≤◌, ℕ, List, IfOk, OnOk, string_bytes};
+ghost use Rattle.std.specs.Prelude.{[], ◌≡◌, ◌++◌, ◌≤◌, ℕ, List, IfOk, OnOk, string_bytes};
 ghost use Rattle.eos_picture.specs.Told.{tellings, AreRowsTold, TellOf};
 ghost use Rattle.eos_picture.specs.steps.Tellings.{times_of};
 
-use crate::canvas::Canvas;
+use crate::canvas::{Canvas, moved};
 use crate::drawn_rows::{Telling, draw_row};
-use crate::headings::{draw_heading, draw_other_heading, heading_of, index_of};
+use crate::headings::{draw_heading, heading_of, index_of};
 use crate::legend::{ROOM, draw_legend};
 use crate::plan::{GAP, Plan, plan_of};
 use crate::times::Times;
@@ -90,7 +90,7 @@ fn draw_headings(
             x: plan.x_of(picture.columns.len() as u64),
             y: top,
         };
-        draw_other_heading(canvas, at)?;
+        canvas.words(moved(at, 6, 28), "of none of these", Look::Remark)?;
     }
     Ok(())
 }
@@ -132,61 +132,80 @@ fn draw_rows(
     Ok(bottom)
 }
 
-/// How high the columns stand.
+/// How large the page is, and where its columns begin and end.
 #[derive(Clone, Copy)]
-struct Heights {
+struct Frame {
+    page: Size,
     top: u64,
     bottom: u64,
 }
 
-/// The ground of each column.
-fn draw_grounds(
-    canvas: &mut Canvas,
-    plan: &Plan,
-    columns: usize,
-    heights: Heights,
-) -> Result<(), AllocError>
-    ensures { OnOk result (tellings canvas.new.shapes.items ≡ tellings canvas.old.shapes.items) }
-{
-    for i in 0..columns {
-        let at = Point {
-            x: plan.x_of(i as u64),
-            y: heights.top,
-        };
-        let size = Size {
-            width: plan.column,
-            height: heights.bottom.saturating_sub(heights.top),
-        };
-        canvas.rectangle(at, size, Look::Column)?;
-    }
-    Ok(())
-}
-
-/// What lies below all that is drawn: the page, the columns, and the arcs between the fault's places.
+/// What lies below all that is drawn: the page, and the ground of each column.
 fn draw_ground(
     ground: &mut Canvas,
     plan: &Plan,
     columns: usize,
-    size: Size,
-    heights: Heights,
+    frame: Frame,
 ) -> Result<(), AllocError>
     ensures { OnOk result (tellings ground.new.shapes.items ≡ tellings ground.old.shapes.items) }
 {
-    ground.rectangle(Point { x: 0, y: 0 }, size, Look::Page)?;
-    draw_grounds(ground, plan, columns, heights)?;
+    ground.rectangle(Point { x: 0, y: 0 }, frame.page, Look::Page)?;
+    for i in 0..columns {
+        let at = Point {
+            x: plan.x_of(i as u64),
+            y: frame.top,
+        };
+        let size = Size {
+            width: plan.column,
+            height: frame.bottom.saturating_sub(frame.top),
+        };
+        ground.rectangle(at, size, Look::Column)?;
+    }
     Ok(())
 }
 
-/// These shapes, and on them those of the canvas.
-fn laid_upon(ground: Canvas, canvas: Canvas) -> Result<Vec<Shape>, AllocError>
-    ensures { IfOk result (λ shapes. tellings shapes.items ≡ tellings ground.shapes.items ++ tellings canvas.shapes.items) }
+/// The ground with the arcs between the fault's places, and on it the shapes of the canvas, which are taken from there.
+fn laid_upon(
+    plan: &Plan,
+    columns: usize,
+    frame: Frame,
+    canvas: &mut Canvas,
+) -> Result<Vec<Shape>, AllocError>
+    ensures { IfOk result (λ shapes. tellings shapes.items ≡ tellings canvas.old.shapes.items) }
 {
-    let mut ground = ground;
-    let mut canvas = canvas;
+    let mut ground = Canvas::new(canvas.alloc);
+    draw_ground(&mut ground, plan, columns, frame)?;
     ground.arcs(canvas.spots.as_slice())?;
-    let mut shapes = ground.shapes;
-    shapes.append(&mut canvas.shapes)?;
-    Ok(shapes)
+    ground.shapes.append(&mut canvas.shapes)?;
+    Ok(ground.shapes)
+}
+
+/// Draws all but the ground.
+fn draw_all(
+    canvas: &mut Canvas,
+    plan: &Plan,
+    picture: &Picture,
+    times: &[Times],
+    title: &str,
+) -> Result<Frame, AllocError>
+    requires plan { 1 ≤ plan.now.columns }
+    requires none { tellings canvas.old.shapes.items ≡ [] }
+    ensures { OnOk result (AreRowsTold picture.now.columns.items picture.now.rows.items times.now (tellings canvas.new.shapes.items)) }
+{
+    let width = plan.right().max(ROOM.width).saturating_add(GAP);
+    let top = draw_head(canvas, title, width)?;
+    draw_headings(canvas, plan, picture, top)?;
+    let bottom = draw_rows(canvas, plan, picture, times, top.saturating_add(HEADINGS))?;
+    let legend = Point {
+        x: GAP,
+        y: bottom.saturating_add(16),
+    };
+    draw_legend(canvas, legend)?;
+    let page = Size {
+        width,
+        height: legend.y.saturating_add(ROOM.height),
+    };
+    Ok(Frame { page, top, bottom })
 }
 
 /// The drawing of a picture under a title, which is in ASCII. Of each mark is told what it is, with the time of its record where its row's
@@ -204,32 +223,11 @@ pub fn drawing_of(
     ensures told { IfOk result (λ drawing. TellOf picture.now times.now drawing.shapes) }
 {
     let plan = plan_of(alloc, picture)?;
-    let width = plan.right().max(ROOM.width).saturating_add(GAP);
     let mut canvas = Canvas::new(alloc);
-    let top = draw_head(&mut canvas, title.as_str(), width)?;
-    draw_headings(&mut canvas, &plan, picture, top)?;
-    let bottom = draw_rows(
-        &mut canvas,
-        &plan,
-        picture,
-        times,
-        top.saturating_add(HEADINGS),
-    )?;
-    let legend = Point {
-        x: GAP,
-        y: bottom.saturating_add(16),
-    };
-    draw_legend(&mut canvas, legend)?;
-    let size = Size {
-        width,
-        height: legend.y.saturating_add(ROOM.height),
-    };
-    let mut ground = Canvas::new(alloc);
-    let heights = Heights { top, bottom };
-    draw_ground(&mut ground, &plan, picture.columns.len(), size, heights)?;
-    let shapes = laid_upon(ground, canvas)?;
+    let frame = draw_all(&mut canvas, &plan, picture, times, title.as_str())?;
+    let shapes = laid_upon(&plan, picture.columns.len(), frame, &mut canvas)?;
     Ok(Drawing {
-        size,
+        size: frame.page,
         title,
         shapes: Listed::new(shapes),
     })

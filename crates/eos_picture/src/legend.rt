@@ -20,11 +20,6 @@ fn draw_sample(canvas: &mut Canvas, at: Point, look: Look, words: &str) -> Resul
     Ok(())
 }
 
-/// Where its last line begins.
-fn last_of(at: Point) -> Point {
-    moved(at, 0, 44)
-}
-
 /// Draws it below the rows.
 pub(crate) fn draw_legend(canvas: &mut Canvas, at: Point) -> Result<(), AllocError>
     ensures { OnOk result (tellings canvas.new.shapes.items ≡ tellings canvas.old.shapes.items) }
@@ -33,13 +28,14 @@ pub(crate) fn draw_legend(canvas: &mut Canvas, at: Point) -> Result<(), AllocErr
     draw_sample(canvas, moved(at, 110, 0), Look::Aborted, "aborted")?;
     draw_sample(canvas, moved(at, 205, 0), Look::Open, "open: no end marker")?;
     let down = moved(at, 0, 22);
+    let last = moved(at, 0, 44);
     canvas.diamond(moved(down, 8, 0), Look::CommitMarker)?;
     canvas.words(moved(down, 22, 11), "commits", Look::Remark)?;
     canvas.diamond(moved(down, 118, 0), Look::AbortMarker)?;
     canvas.words(moved(down, 132, 11), "aborts", Look::Remark)?;
-    canvas.diamond(moved(last_of(at), 308, 0), Look::Missing)?;
+    canvas.diamond(moved(last, 308, 0), Look::Missing)?;
     canvas.words(
-        moved(last_of(at), 322, 11),
+        moved(last, 322, 11),
         "an end marker that is missing; x2: it stands there twice",
         Look::Remark,
     )?;
@@ -51,7 +47,7 @@ pub(crate) fn draw_legend(canvas: &mut Canvas, at: Point) -> Result<(), AllocErr
     )?;
     draw_sample(
         canvas,
-        last_of(at),
+        last,
         Look::Fault,
         "a place of the fault, its offset below",
     )?;

@@ -8,9 +8,10 @@ ghost use Rattle.eos_picture.specs.steps.Kept.{Keeps};
 
 use crate::ends::{End, count_ends, first_end, first_end_of, has_end};
 use crate::mark::{Column, Mark, Sign};
+use crate::named::is_named;
 use crate::passes::Pass;
-use crate::spots::{At, Spot, is_of};
-use crate::window::{column_of, is_named};
+use crate::spots::{At, Spot};
+use crate::window::{column_of, is_written_by};
 use eos_commits::is_visible;
 use eos_kept::Part;
 use std::alloc::AllocError;
@@ -40,7 +41,9 @@ fn is_at(at: At, column: &Column, sign: &Sign) -> bool {
             At::Transaction { producer, epoch },
             Sign::Record { .. } | Sign::Commit { .. } | Sign::Marker { .. } | Sign::Missing(_),
         )
-        | (At::Open { producer, epoch }, Sign::Missing(_)) => { is_of(column, producer, epoch) }
+        | (At::Open { producer, epoch }, Sign::Missing(_)) => {
+            is_written_by(column, (producer, epoch))
+        }
         (At::Marker { end, .. }, Sign::Marker { kind, .. }) => end.kind == *kind
             && has_end(column, end),
         (At::Passing(place), Sign::Passed { fate, from, to }) => {
@@ -68,7 +71,7 @@ fn spot_of(scene: Scene<'_>, part: &Part, column: &Column, sign: &Sign) -> Optio
 pub(crate) fn is_missed(scene: Scene<'_>, part: &Part, column: &Column) -> bool {
     for spot in scene.spots {
         if let At::Open { producer, epoch } = spot.at {
-            if is_named(part, &spot.name) && is_of(column, producer, epoch) {
+            if is_named(part, &spot.name) && is_written_by(column, (producer, epoch)) {
                 return true;
             }
         }

@@ -1,21 +1,18 @@
 //! Names of partitions, and the one that a fault names.
 
-ghost use Rattle.std.specs.Prelude.{◌≡◌, codes, IfOk};
+ghost use Rattle.std.specs.Prelude.{◌≡◌, ◌≢◌, Some, true, false, codes, IfOk};
 ghost use Rattle.std.specs.Option.{option_copied};
-ghost use Rattle.eos_picture.specs.Window.{name_at, name_of as name_of_fault_line, named_by};
+ghost use Rattle.eos_fold.specs.Parts.{part_name};
+ghost use Rattle.eos_picture.specs.Order.{is_of_name};
+ghost use Rattle.eos_picture.specs.Window.{name_of, named_by};
 
 use bytes::Bytes;
 use eos_base::PartitionName;
-use eos_claims::Place;
 use eos_fold::PartitionFault;
+use eos_kept::Part;
+use eos_sought::is_same;
 use eos_verdict::{Fault, LineageFault};
 use std::alloc::{AllocError, Global};
-
-pub(crate) fn clone_name(name: &PartitionName) -> Result<PartitionName, AllocError>
-    ensures { IfOk result (λ copy. copy ≡ name.now) }
-{
-    name.clone()
-}
 
 pub(crate) fn transaction_log(alloc: Global, partition: i32) -> Result<PartitionName, AllocError>
     ensures { IfOk result (λ name. name ≡ record { topic = codes "__transaction_state"; partition = partition }) }
@@ -36,48 +33,47 @@ pub(crate) fn name_in(fault: &PartitionFault) -> Result<PartitionName, AllocErro
     })
 }
 
-fn copied(name: &Option<PartitionName>) -> Result<Option<PartitionName>, AllocError>
-    ensures { IfOk result (λ copy. copy ≡ name.now) }
+/// Whether it is the partition of this topic and number.
+fn is_at(part: &Part, topic: &[u8], partition: i32) -> bool
+    ensures { result ≡ is_of_name (Some (record { topic = topic.now; partition = partition })) part.now }
 {
-    match name {
-        None => Ok(None),
-        Some(name) => Ok(Some(clone_name(name)?)),
-    }
+    is_same(part.topic().as_slice(), topic) && part.partition() == partition
 }
 
-fn name_of_place(at: &Option<Place>) -> Result<Option<PartitionName>, AllocError>
-    ensures { IfOk result (λ name. name ≡ name_at at.now) }
+/// Whether this is the partition's name.
+pub(crate) fn is_named(part: &Part, name: &PartitionName) -> bool
+    ensures is { result ≡ is_of_name (Some name.now) part.now }
+    ensures yes { result ≡ true → part_name part.now ≡ name.now }
+    ensures no { result ≡ false → part_name part.now ≢ name.now }
 {
-    match at {
-        None => Ok(None),
-        Some(at) => Ok(Some(clone_name(&at.partition)?)),
-    }
+    is_at(part, name.topic.as_slice(), name.partition)
 }
 
-fn name_of(alloc: Global, fault: &Fault) -> Result<Option<PartitionName>, AllocError>
-    ensures { IfOk result (λ name. name ≡ name_of_fault_line fault.now) }
+/// Whether it is the partition that the fault's line names, if that names one.
+fn names(fault: &Fault, part: &Part) -> bool
+    ensures { result ≡ is_of_name (name_of fault.now) part.now }
 {
     match fault {
-        Fault::Partition(fault) => Ok(Some(name_in(fault)?)),
-        Fault::Log(fault) => Ok(Some(transaction_log(alloc, fault.partition)?)),
-        Fault::Match(fault) => copied(&fault.partition),
-        Fault::Lineage(LineageFault::Record(fault)) => Ok(Some(clone_name(&fault.partition)?)),
-        Fault::Lineage(LineageFault::Output { fault, .. }) => name_of_place(&fault.at),
+        Fault::Partition(fault) => is_at(part, fault.topic.as_slice(), fault.partition),
+        Fault::Log(fault) => is_at(part, b"__transaction_state".as_slice(), fault.partition),
+        Fault::Match(fault) => match &fault.partition {
+            None => false,
+            Some(name) => is_named(part, name),
+        },
+        Fault::Lineage(LineageFault::Record(fault)) => is_named(part, &fault.partition),
+        Fault::Lineage(LineageFault::Output { fault, .. }) => match &fault.at {
+            None => false,
+            Some(at) => is_named(part, &at.partition),
+        },
     }
 }
 
-/// The name of the partition that the fault's line names, if it names one.
-///
-/// # Errors
-/// Only want of memory.
-pub(crate) fn name_of_fault(
-    alloc: Global,
-    fault: Option<&Fault>,
-) -> Result<Option<PartitionName>, AllocError>
-    ensures { IfOk result (λ name. name ≡ named_by (option_copied fault.entry)) }
+/// The same, of a fault, if there is one.
+pub(crate) fn is_named_by(fault: Option<&Fault>, part: &Part) -> bool
+    ensures { result ≡ is_of_name (named_by (option_copied fault.entry)) part.now }
 {
     match fault {
-        None => Ok(None),
-        Some(fault) => name_of(alloc, fault),
+        None => false,
+        Some(fault) => names(fault, part),
     }
 }

@@ -4,7 +4,6 @@ ghost use Rattle.std.specs.Prelude.{Option, OnOk};
 ghost use Rattle.eos_claims.specs.declared.place.Place.{Place};
 ghost use Rattle.eos_picture.specs.steps.Spots.{StartsAt};
 
-use crate::named::clone_name;
 use crate::past::push_past;
 use crate::spots::{Spot, name_of, push_offset};
 use eos_claims::{OutputFault, OutputKind};
@@ -93,18 +92,11 @@ pub(crate) fn push_output(
         return Ok(());
     };
     push_claims(alloc, spots, app, logs, fault)?;
-    if is_of_input(fault) {
+    // That an input has no output, or that its output came before its commit.
+    if matches!(fault.kind, OutputKind::Missing | OutputKind::Early) {
         push_past(spots, app, logs, &fault.source)?;
-        push_offset(
-            spots,
-            clone_name(&fault.source.partition)?,
-            fault.source.offset,
-        )?;
+        let source = &fault.source;
+        push_offset(spots, source.partition.clone()?, source.offset)?;
     }
     Ok(())
-}
-
-/// Whether the fault is that an input has no output, or that its output came before its commit.
-fn is_of_input(fault: &OutputFault) -> bool {
-    matches!(fault.kind, OutputKind::Missing | OutputKind::Early)
 }

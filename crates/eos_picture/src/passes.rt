@@ -6,6 +6,7 @@ use eos_commits::is_visible;
 use eos_fold::Fate;
 use eos_kept::{ItemRef, Part};
 use eos_offsets::{KeyRef, view_key, view_value};
+use eos_sought::is_of_offsets_log;
 use std::alloc::{AllocError, Global};
 use std::collections::BTreeMap;
 
@@ -29,11 +30,6 @@ pub(crate) struct Pass<'a> {
     pub to: i64,
 }
 
-/// Whether it is a partition of the offsets log.
-pub(crate) fn is_of_offsets_log(part: &Part) -> bool {
-    part.topic().as_slice() == b"__consumer_offsets".as_slice()
-}
-
 /// What a record of the offsets log commits, if it does.
 pub(crate) fn commit_of<'a>(item: &ItemRef<'a>) -> Option<(KeyRef<'a>, i64)> {
     let Ok(Some(key)) = view_key(item.key()?) else {
@@ -42,13 +38,6 @@ pub(crate) fn commit_of<'a>(item: &ItemRef<'a>) -> Option<(KeyRef<'a>, i64)> {
     match view_value(item.value()?) {
         Ok(offset) => Some((key, offset)),
         Err(_) => None,
-    }
-}
-
-fn last_of<'a>(last: &BTreeMap<Source<'a>, i64>, source: &Source<'a>) -> i64 {
-    match last.get(source) {
-        Some(offset) => *offset,
-        None => 0,
     }
 }
 
@@ -66,7 +55,7 @@ fn take_commit<'a>(
         topic: key.topic,
         partition: key.partition,
     };
-    let from = last_of(last, &source);
+    let from = last.get(&source).copied().unwrap_or(0);
     if let Some(writer) = item.writer() {
         if let Some(column) = column_of(columns, writer) {
             passes.push(Pass {

@@ -4,36 +4,24 @@ ghost use Rattle.std.specs.Prelude.{Option, OnOk};
 ghost use Rattle.eos_claims.specs.declared.place.Place.{Place as APlace};
 ghost use Rattle.eos_picture.specs.steps.Spots.{StartsAt};
 
-use crate::passes::{commit_of, is_of_offsets_log};
 use crate::spots::{Spot, name_of, push_offset};
 use eos_claims::Place;
 use eos_commits::is_visible;
 use eos_evidence::App;
 use eos_kept::{ItemRef, Part};
+use eos_sought::{is_of_offsets_log, passes};
 use std::alloc::AllocError;
 
 /// Whether the record is a visible commit of the application's group that goes past the input.
-fn is_past(app: &App, input: &Place, item: &ItemRef<'_>) -> bool {
-    if !is_visible(item.fate()) {
-        return false;
-    }
-    match commit_of(item) {
-        None => false,
-        Some((key, to)) => {
-            key.group == app.group.as_bytes()
-                && key.topic == input.partition.topic.as_slice()
-                && key.partition == input.partition.partition
-                && 0 < to
-                && input.offset < to as u64
-        }
-    }
+fn is_past(app: &App, input: &Place, part: &Part, item: &ItemRef<'_>) -> bool {
+    is_visible(item.fate()) && passes(app.group.as_bytes(), input, part, item)
 }
 
 /// The offset of the first such record of a partition.
 fn first_past(app: &App, input: &Place, part: &Part) -> Option<u64> {
     let mut items = part.items().cursor();
     while let Some(item) = items.next() {
-        if is_past(app, input, &item) {
+        if is_past(app, input, part, &item) {
             return Some(item.offset());
         }
     }

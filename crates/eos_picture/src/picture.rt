@@ -8,9 +8,8 @@ ghost use Rattle.eos_picture.specs.Window.{IsWindow, place_of};
 ghost use Rattle.eos_picture.specs.steps.Spots.{StartsAt};
 
 use crate::chosen::{Wanted, columns_at, columns_shown};
-use crate::mark::{Column, Picture};
+use crate::mark::{Column, Picture, Row};
 use crate::marks::Scene;
-use crate::named::name_of_fault;
 use crate::passes::passes_of;
 use crate::rows::rows_of;
 use crate::spots::{Spot, spots_of};
@@ -37,6 +36,26 @@ fn spots_in(
     }
 }
 
+/// The rows of what these transactions did, with these places of the fault.
+fn rows_shown(
+    alloc: Global,
+    columns: &[Column],
+    spots: &[Spot],
+    logs: &[Part],
+) -> Result<Vec<Row>, AllocError>
+    ensures so { IfOk result (λ rows. HasTrueRows logs.now columns.now rows.items) }
+    ensures whole { IfOk result (λ rows. HasWholeRows logs.now columns.now rows.items) }
+{
+    let passes = passes_of(alloc, columns, logs)?;
+    let scene = Scene {
+        columns,
+        passes: passes.as_slice(),
+        spots,
+        logs,
+    };
+    rows_of(alloc, scene)
+}
+
 /// The picture around a fault of an evidence whose logs these are: so many transactions on each side of the first one that has to do
 /// with it, in the order of a partition that they share with it; or where there is no fault, or none of its places is of a transaction, the
 /// first of all, twice so many.
@@ -56,29 +75,17 @@ pub fn picture_of(
     ensures whole { IfOk result (λ picture. HasWholeRows logs.now picture.columns.items picture.rows.items) }
     ensures window { IfOk result (IsWindow logs.now (option_copied fault.entry) around) }
 {
-    let columns = columns_of(alloc, logs)?;
-    let spots = spots_in(alloc, apps, logs, columns.as_slice(), fault)?;
-    let all = columns.len();
-    let middle = middle_of(columns.as_slice(), logs, spots.as_slice());
-    let name = name_of_fault(alloc, fault)?;
-    let wanted = Wanted {
-        name: name.as_ref(),
-        around,
-    };
-    let places = columns_shown(alloc, columns.as_slice(), logs, wanted, middle)?;
-    let columns = columns_at(alloc, columns.as_slice(), places.as_slice())?;
-    let passes = passes_of(alloc, columns.as_slice(), logs)?;
-    let scene = Scene {
-        columns: columns.as_slice(),
-        passes: passes.as_slice(),
-        spots: spots.as_slice(),
-        logs,
-    };
-    let rows = rows_of(alloc, scene)?;
+    let every = columns_of(alloc, logs)?;
+    let spots = spots_in(alloc, apps, logs, every.as_slice(), fault)?;
+    let middle = middle_of(every.as_slice(), logs, spots.as_slice());
+    let wanted = Wanted { fault, around };
+    let places = columns_shown(alloc, every.as_slice(), logs, wanted, middle)?;
+    let columns = columns_at(alloc, every.as_slice(), places.as_slice())?;
+    let rows = rows_shown(alloc, columns.as_slice(), spots.as_slice(), logs)?;
     Ok(Picture {
         columns,
         places,
-        all,
+        all: every.len(),
         rows,
     })
 }

@@ -2,10 +2,10 @@
 
 ghost use Rattle.std.specs.Prelude.{◌≤◌, IfOk};
 
+use crate::Picture;
 use crate::cells::offset_of;
 use crate::headings::{heading_of, index_of};
 use crate::labels::{digits, name_label};
-use crate::{Column, Mark, Picture, Row};
 use std::alloc::{AllocError, Global};
 
 /// The width of a character, and more.
@@ -18,7 +18,7 @@ pub(crate) const LINE: u64 = 24;
 pub(crate) const GAP: u64 = 10;
 
 /// How many characters a row's name has at most.
-const NAME: usize = 40;
+pub(crate) const NAME: usize = 40;
 
 /// The widths of a drawing, in pixels.
 #[derive(Clone, Copy)]
@@ -35,20 +35,11 @@ pub(crate) struct Plan {
     pub per_line: u64,
 }
 
-/// The name of a row, as it is printed.
-pub(crate) fn row_name(alloc: Global, row: &Row) -> Result<String, AllocError> {
-    name_label(alloc, &row.name, NAME)
-}
-
-fn width_of(characters: usize) -> u64 {
-    CHARACTER.saturating_mul(characters as u64)
-}
-
 /// The longest name of a row.
 fn name_characters(alloc: Global, picture: &Picture) -> Result<usize, AllocError> {
     let mut most = 10;
     for row in picture.rows.as_slice() {
-        most = row_name(alloc, row)?.len().max(most);
+        most = name_label(alloc, &row.name, NAME)?.len().max(most);
     }
     Ok(most)
 }
@@ -79,27 +70,19 @@ fn offset_digits(picture: &Picture) -> u64 {
     most
 }
 
-/// Whether a mark is of none of these transactions.
-fn has_other(marks: &[Mark], columns: &[Column]) -> bool {
-    for mark in marks {
-        if mark.column >= columns.len() {
-            return true;
-        }
-    }
-    false
-}
-
 /// How many columns there are: one more where a mark is of none of the transactions.
 pub(crate) fn columns_of(picture: &Picture) -> usize
     ensures { 1 ≤ result }
 {
-    let columns = picture.columns.as_slice();
+    let columns = picture.columns.len();
     for row in picture.rows.as_slice() {
-        if has_other(row.marks.as_slice(), columns) {
-            return columns.len().saturating_add(1);
+        for mark in row.marks.as_slice() {
+            if mark.column >= columns {
+                return columns.saturating_add(1);
+            }
         }
     }
-    columns.len().max(1)
+    columns.max(1)
 }
 
 pub(crate) fn plan_of(alloc: Global, picture: &Picture) -> Result<Plan, AllocError>
@@ -107,14 +90,18 @@ pub(crate) fn plan_of(alloc: Global, picture: &Picture) -> Result<Plan, AllocErr
 {
     let names = name_characters(alloc, picture)?;
     let characters = heading_characters(alloc, picture)?;
-    let column = width_of(characters).saturating_add(12);
+    let column = CHARACTER
+        .saturating_mul(characters as u64)
+        .saturating_add(12);
     let record = CHARACTER
         .saturating_mul(offset_digits(picture))
         .saturating_add(8);
     let room = column.saturating_sub(26);
     let per_line = room / record.saturating_add(8).max(1);
     Ok(Plan {
-        left: width_of(names).saturating_add(2 * GAP),
+        left: CHARACTER
+            .saturating_mul(names as u64)
+            .saturating_add(2 * GAP),
         column,
         columns: columns_of(picture),
         record,

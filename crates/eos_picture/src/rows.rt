@@ -11,12 +11,13 @@ ghost use Rattle.eos_picture.specs.steps.Kept.{Keeps};
 use crate::acts::push_acts;
 use crate::mark::{Mark, Row, Sign};
 use crate::marks::{Scene, push_mark, push_spots};
-use crate::passes::{commit_of, is_of_offsets_log};
+use crate::passes::commit_of;
 use crate::spots::name_of;
 use crate::window::column_of;
 use bytes::Bytes;
 use eos_base::PartitionName;
 use eos_kept::{ItemRef, Part};
+use eos_sought::is_of_offsets_log;
 use eos_table::is_of_transaction_log;
 use std::alloc::{AllocError, Global};
 

@@ -8,9 +8,9 @@ ghost use Rattle.eos_picture.specs.steps.Spots.{StartsAt, spot_at};
 
 use crate::ends::{End, count_ends, is_ended_by, marker_at, open_epoch};
 use crate::mark::Column;
-use crate::named::{clone_name, name_in, transaction_log};
+use crate::named::{is_named, name_in, transaction_log};
 use crate::outputs::{app_of, push_output};
-use crate::window::is_named;
+use crate::window::is_written_by;
 use eos_base::PartitionName;
 use eos_batch::Kind;
 use eos_claims::{OutputFault, OutputKind};
@@ -103,7 +103,7 @@ fn push_at(spots: &mut Vec<Spot>, name: &PartitionName, at: At) -> Result<(), Al
     ensures stays { (first : Option Place) → StartsAt spots.old.items first → OnOk result (StartsAt spots.new.items first) }
 {
     spots.push(Spot {
-        name: clone_name(name)?,
+        name: name.clone()?,
         at,
     })?;
     Ok(())
@@ -219,16 +219,11 @@ fn push_partition(
     push_besides(spots, logs, fault)
 }
 
-/// Whether the transaction's data have this producer id and epoch.
-pub(crate) fn is_of(column: &Column, producer: i64, epoch: i16) -> bool {
-    column.producer == producer && column.epoch == epoch
-}
-
 /// Whether the fault is of the transaction: its epoch is that of the data, or of end markers that no decision lists.
 fn is_meant(column: &Column, fault: &MatchFault) -> bool {
     match fault.kind {
         MatchFaultKind::StrayMarker => is_ended_by(column, fault.producer, fault.epoch),
-        _ => is_of(column, fault.producer, fault.epoch),
+        _ => is_written_by(column, (fault.producer, fault.epoch)),
     }
 }
 
@@ -249,16 +244,14 @@ fn push_named(spots: &mut Vec<Spot>, fault: &OutputFault) -> Result<(), AllocErr
     ensures { spots.old.items ≡ [] → OnOk result (StartsAt spots.new.items fault.now.at) }
 {
     if let Some(at) = &fault.at {
-        push_offset(spots, clone_name(&at.partition)?, at.offset)?;
+        push_offset(spots, at.partition.clone()?, at.offset)?;
     }
     if matches!(
         fault.kind,
         OutputKind::Missing | OutputKind::OtherTransaction
     ) {
-        spots.push(Spot {
-            name: clone_name(&fault.source.partition)?,
-            at: At::Passing(fault.source.offset),
-        })?;
+        let past = At::Passing(fault.source.offset);
+        push_at(spots, &fault.source.partition, past)?;
     }
     Ok(())
 }
@@ -295,7 +288,7 @@ pub(crate) fn spots_of(
         }
         Fault::Match(fault) => push_match(alloc, &mut spots, logs, columns, fault)?,
         Fault::Lineage(LineageFault::Record(fault)) => {
-            push_offset(&mut spots, clone_name(&fault.partition)?, fault.offset)?;
+            push_offset(&mut spots, fault.partition.clone()?, fault.offset)?;
             push_at(&mut spots, &fault.partition, At::Near(fault.offset))?;
         }
         Fault::Lineage(LineageFault::Output { group, fault }) => {

@@ -4,7 +4,6 @@ ghost use Rattle.std.specs.Prelude.{◌≡◌, ◌≢◌, ◌<◌, ◌⊎◌, �
 ghost use Rattle.std.specs.Option.{option_or};
 ghost use Rattle.eos_base.specs.Members.{Has};
 ghost use Rattle.eos_fold.specs.declared.item.Item.{Item};
-ghost use Rattle.eos_fold.specs.Parts.{part_name};
 ghost use Rattle.eos_claims.specs.declared.place.Place.{Place};
 ghost use Rattle.eos_picture.specs.Window.{IsOfRecordAt};
 ghost use Rattle.eos_picture.specs.steps.Found.{IsPlaceOf};
@@ -12,12 +11,14 @@ ghost use Rattle.eos_picture.specs.steps.Spots.{StartsAt, spot_at};
 
 use crate::ends::{End, is_ended_by};
 use crate::mark::Column;
+use crate::named::is_named;
 use crate::spots::{At, Spot};
 use eos_base::PartitionName;
 use eos_kept::{ItemRef, Part};
 use eos_table::is_of_transaction_log;
 
-fn is_written_by(column: &Column, writer: (i64, i16)) -> bool
+/// Whether the transaction's data have this producer id and epoch.
+pub(crate) fn is_written_by(column: &Column, writer: (i64, i16)) -> bool
     ensures yes { result ≡ true → writer ≡ (column.now.producer, column.now.epoch) }
     ensures no { result ≡ false → writer ≢ (column.now.producer, column.now.epoch) }
 {
@@ -35,13 +36,6 @@ pub(crate) fn column_of(columns: &[Column], writer: (i64, i16)) -> Option<usize>
         }
     }
     None
-}
-
-pub(crate) fn is_named(part: &Part, name: &PartitionName) -> bool
-    ensures yes { result ≡ true → part_name part.now ≡ name.now }
-    ensures no { result ≡ false → part_name part.now ≢ name.now }
-{
-    part.topic() == &name.topic && part.partition() == name.partition
 }
 
 /// In a partition of the transaction log: the first transaction that was decided at this offset or behind it, or else the last of

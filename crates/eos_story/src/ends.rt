@@ -17,7 +17,7 @@ use crate::scene::Scene;
 use crate::slices::around;
 use eos_base::PartitionName;
 use eos_evidence::{Partition, Segment};
-use eos_sought::{Wanted, partition_named};
+use eos_sought::{Wanted, begin_of, partition_named};
 use std::alloc::AllocError;
 
 /// How many of these segments begin at an offset or before it.
@@ -27,18 +27,11 @@ fn count_begun(segments: &[Segment], offset: u64) -> usize
 {
     let mut count = 0usize;
     for segment in segments {
-        if base_of(segment) <= offset {
+        if begin_of(segment) <= offset {
             count += 1;
         }
     }
     count
-}
-
-/// A segment's name, the offset of its first record.
-fn base_of(segment: &Segment) -> u64
-    ensures { result ≡ base_of segment.now }
-{
-    segment.base.unsigned_abs()
 }
 
 fn size_of(segment: &Segment) -> u64
@@ -58,7 +51,7 @@ fn push_segment(
     requires has { Has partition.now.segments segment.now }
     ensures { OnOk result (Tells scene.now rows.old.items rows.new.items (IsNext rows.old.items (SegmentRow name.now (base_of segment.now) (length segment.now.bytes)))) }
 {
-    let base = base_of(segment);
+    let base = begin_of(segment);
     let size = size_of(segment);
     let partition = copy_name(name)?;
     add_row(

@@ -5,7 +5,7 @@ ghost use Rattle.std.specs.List.{list_any};
 ghost use Rattle.std.specs.Option.{option_copied, option_map};
 ghost use Rattle.eos_story.specs.GroupCommits.{is_passing, input_of, passes_before, was_past, is_back, commits_at, is_by_writer, is_last_for_next, is_decided_by, decides_in, is_listed_by, is_owed_by, is_owed};
 
-use crate::names::{is_same, is_there};
+use crate::names::is_there;
 use crate::signs::Told;
 use crate::twins::is_same_writer;
 use crate::{Row, epoch_after, is_of_offsets, lists};
@@ -14,7 +14,7 @@ use eos_base::PartitionName;
 use eos_claims::Place;
 use eos_commits::is_visible;
 use eos_offsets::view_value;
-use eos_sought::{Find, Sought, Wanted};
+use eos_sought::{Find, Sought, Wanted, is_same};
 use std::alloc::{AllocError, Global};
 
 /// Whether these are commits of the group that go past the input.

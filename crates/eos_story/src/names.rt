@@ -2,14 +2,13 @@
 
 ghost use Rattle.std.specs.Prelude.{◌≡◌, ◌++◌, OnOk, string_bytes};
 ghost use Rattle.std.specs.Option.{option_copied};
-ghost use Rattle.eos_commits.specs.Commits.{is_same as is_same_text};
 ghost use Rattle.eos_verdict.specs.FaultTexts.{name_text};
 ghost use Rattle.eos_text.specs.Adding.{Adds};
 ghost use Rattle.eos_story.specs.Places.{at_text, spot_text, is_there, mark_of};
 
 use eos_base::PartitionName;
 use eos_claims::Place;
-use eos_sought::Placed;
+use eos_sought::{Placed, is_same};
 use eos_text::{push_escaped, push_text, push_value};
 use std::alloc::{AllocError, Global};
 
@@ -54,13 +53,6 @@ pub fn push_spot(out: &mut String, spot: Option<Placed>) -> Result<(), AllocErro
             Ok(())
         }
     }
-}
-
-/// Whether two names are the same.
-pub(crate) fn is_same(a: &[u8], b: &[u8]) -> bool
-    ensures { result ≡ is_same_text a.now b.now }
-{
-    a.cmp(b).is_eq()
 }
 
 /// Whether this is the fault's place.

@@ -7,12 +7,11 @@ ghost use Rattle.eos_story.specs.GroupCommits.{is_same_writer};
 ghost use Rattle.eos_story.specs.Signs.{is_same_claim, is_same_place, is_twin_of, is_complete, is_completed, is_of_states, completes};
 ghost use Rattle.std.specs.Prelude.{Some};
 
-use crate::names::is_same;
 use bytes::Bytes;
 use eos_batch::Header;
 use eos_claims::{Claim, read_claim};
 use eos_commits::is_visible;
-use eos_sought::{Find, state_of};
+use eos_sought::{Find, is_same, state_of};
 use eos_txnlog::{Status, TxnValue};
 use std::alloc::{AllocError, Global};
 
