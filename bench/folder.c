@@ -2,8 +2,8 @@
  *
  *     folder FOLDER MEBIBYTES SEED [INPUTS [SEGMENT [ROTATE [INSTANCES]]]]
  *
- * INSTANCES (4) of one application, each with its own transactional id, read the four partitions of `in` (plain records of
- * SIZE bytes, 100 where it isn't defined) and write to the four of `out`. A transaction takes INPUTS (500) inputs in a row, writes 1 to 3
+ * INSTANCES (as many as partitions) of one application, each with its own transactional id, read the PARTS (4) partitions of `in` (plain
+ * records of SIZE bytes, 100 where it isn't defined) and write to those of `out`. A transaction takes INPUTS (500) inputs in a row, writes 1 to 3
  * outputs of SIZE bytes for each of them, with the five lineage headers, and commits the offset past them. It has an epoch of its own: its
  * markers and its Prepare and Complete records have the epoch that the instance's next transaction starts with. All instances
  * have a transaction open at the same time, then all end theirs. After ROTATE (32000) transactions an instance takes a new
@@ -24,7 +24,12 @@
 #define SIZE 100
 #endif
 
-enum { PARTS = 4, IN_BATCH = 500, OUT_BATCH = 100, TRANSACTIONAL = 16, CONTROL = 32 };
+/* How many partitions each of the topics has. */
+#ifndef PARTS
+#define PARTS 4
+#endif
+
+enum { IN_BATCH = 500, OUT_BATCH = 100, TRANSACTIONAL = 16, CONTROL = 32 };
 enum { EMPTY, ONGOING, PREPARE_COMMIT, COMPLETE_COMMIT = 4 };
 
 static uint32_t table[256];
@@ -193,16 +198,26 @@ static void add_commit(struct batch *batch, int partition, uint64_t offset) {
 }
 
 /* The partitions are a set of bits of `out`, and that of the offsets where there are any. */
-static void add_state(struct batch *batch, const char *id, int64_t producer, int epoch, int status, unsigned outs) {
-    uint8_t key[40], value[200], *k = text(big(big(key, 0, 2), strlen(id), 2), id), *v = big(big(value, 1, 2), (uint64_t)producer, 8);
+/* The partitions of `out` that a transaction has written to. */
+struct set {
+    int count;
+    uint8_t has[PARTS];
+};
+
+static const struct set none;
+
+static void add_state(struct batch *batch, const char *id, int64_t producer, int epoch, int status, const struct set *outs) {
+    uint8_t key[40], value[200 + 4 * PARTS], *k = text(big(big(key, 0, 2), strlen(id), 2), id), *v = big(big(value, 1, 2), (uint64_t)producer, 8);
     v = big(big(big(v, (uint64_t)epoch, 2), 60000, 4), (uint64_t)status, 1);
-    *v++ = outs ? 3 : 1;
-    if (outs) {
+    *v++ = outs->count ? 3 : 1;
+    if (outs->count) {
         *v++ = 4;
         v = text(v, "out");
-        *v++ = (uint8_t)(__builtin_popcount(outs) + 1);
+        unsigned listed = (unsigned)outs->count + 1;
+        for (; listed >= 128; listed >>= 7) *v++ = (uint8_t)(listed | 128);
+        *v++ = (uint8_t)listed;
         for (int i = 0; i < PARTS; i++)
-            if (outs >> i & 1) v = big(v, (uint64_t)i, 4);
+            if (outs->has[i]) v = big(v, (uint64_t)i, 4);
         *v++ = 0;
         *v++ = 19;
         v = text(v, "__consumer_offsets");
@@ -225,11 +240,11 @@ struct instance {
     char id[20];
     int64_t producer;
     int epoch;
-    unsigned outs;
+    struct set outs;
     uint32_t sequences[PARTS];
 };
 
-static void write_state(const struct instance *a, int epoch, int status, unsigned outs) {
+static void write_state(const struct instance *a, int epoch, int status, const struct set *outs) {
     add_state(&single, a->id, a->producer, epoch, status, outs);
     append(&states, &single, 0, -1, -1, -1);
 }
@@ -239,7 +254,8 @@ static void flush(struct instance *a, int to) {
     if (count == 0) return;
     append(&out[to], &pending[to], TRANSACTIONAL, a->producer, a->epoch, a->sequences[to]);
     a->sequences[to] += count;
-    a->outs |= 1u << to;
+    a->outs.count += !a->outs.has[to];
+    a->outs.has[to] = 1;
 }
 
 static void feed(int partition, uint64_t until) {
@@ -251,7 +267,7 @@ static void feed(int partition, uint64_t until) {
 
 /* The outputs of the next inputs, and the commit of the offset past them. */
 static void write_data(struct instance *a, int partition, uint64_t count) {
-    a->outs = 0;
+    a->outs = none;
     memset(a->sequences, 0, sizeof a->sequences);
     for (uint64_t offset = done[partition]; offset < done[partition] + count; offset++) {
         uint64_t draw = (offset * PARTS + (uint64_t)partition + seed) * 0x9e3779b97f4a7c15u;
@@ -266,20 +282,20 @@ static void write_data(struct instance *a, int partition, uint64_t count) {
     for (int to = 0; to < PARTS; to++) flush(a, to);
     done[partition] += count;
     inputs += count;
-    write_state(a, a->epoch, ONGOING, a->outs);
+    write_state(a, a->epoch, ONGOING, &a->outs);
     add_commit(&single, partition, done[partition]);
     append(&offsets, &single, TRANSACTIONAL, a->producer, a->epoch, -1);
 }
 
 static void end(struct instance *a) {
     int raised = a->epoch + 1;
-    write_state(a, raised, PREPARE_COMMIT, a->outs);
+    write_state(a, raised, PREPARE_COMMIT, &a->outs);
     for (int to = 0; to <= PARTS; to++) {
-        if (to < PARTS && !(a->outs >> to & 1)) continue;
+        if (to < PARTS && !a->outs.has[to]) continue;
         add_marker(&single);
         append(to < PARTS ? &out[to] : &offsets, &single, TRANSACTIONAL | CONTROL, a->producer, raised, -1);
     }
-    write_state(a, raised, COMPLETE_COMMIT, 0);
+    write_state(a, raised, COMPLETE_COMMIT, &none);
     a->epoch = raised;
     transactions++;
 }
@@ -327,7 +343,7 @@ int main(int argc, char **argv) {
             if (a->producer < 0 || a->epoch >= rotate) {
                 a->producer = next_producer++;
                 a->epoch = 0;
-                write_state(a, 0, EMPTY, 0);
+                write_state(a, 0, EMPTY, &none);
             }
             feed(i % PARTS, done[i % PARTS] + count);
             write_data(a, i % PARTS, count);
