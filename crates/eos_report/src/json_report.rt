@@ -1,7 +1,7 @@
 //! The report of a check, as a text.
 
 ghost use Rattle.std.specs.Prelude.{◌≡◌, [], IfOk, OnOk, string_bytes};
-ghost use Rattle.serde_json.specs.Data.{Data, put as with_member};
+ghost use Rattle.serde_json.specs.Data.{Data, no_members, object, put as with_member};
 ghost use Rattle.serde_json.specs.View.{view};
 ghost use Rattle.eos_report.specs.steps.Held.{held};
 ghost use Rattle.eos_report.specs.steps.Frames.{IsFrame};
@@ -65,30 +65,45 @@ fn frame_of(
 ) -> Result<String, AllocError>
     ensures { IfOk result (λ frame. IsFrame about.entry found.entry.verdict.now found.entry.dates.now found.entry.notes.now found.entry.tallies.now times (string_bytes frame)) }
 {
-    let seconds = value_of_times(alloc, times)?;
-    let value = value_of_report(alloc, about, found, seconds)?;
+    let value = value_of_report(alloc, about, found, times)?;
     let text = value.to_string(alloc)?;
     Ok(text)
 }
 
-#[tactic(auto, unfolding(crate::specs::Reports::report_value))]
 fn value_of_report(
     alloc: Global,
     about: About<'_>,
     found: Findings<'_>,
-    seconds: Value,
+    times: Times,
 ) -> Result<Value, AllocError>
-    ensures { IfOk result (λ value. view value ≡ report_value about.entry found.entry.verdict.now [] found.entry.dates.now found.entry.notes.now found.entry.tallies.now (view seconds)) }
+    ensures { IfOk result (λ value. (seconds : Data) × AreTimes times seconds × (view value ≡ report_value about.entry found.entry.verdict.now [] found.entry.dates.now found.entry.notes.now found.entry.tallies.now seconds)) }
 {
     let mut made = Object::new(alloc);
-    put_about(alloc, &mut made, about)?;
-    put_verdict(alloc, &mut made, found)?;
-    let notes = values_of_notes(alloc, found.notes)?;
-    made.put("notes", Value::Array(notes))?;
-    put_tallies(alloc, &mut made, found.tallies)?;
-    made.put("seconds", seconds)?;
-    made.put("timestamps_read", Value::Bool(found.dates.read))?;
+    put_report(alloc, &mut made, about, found, times)?;
     Ok(made.into_value())
+}
+
+/// Puts all of it into an object that has no members yet.
+#[tactic(auto, unfolding(crate::specs::Reports::report_value))]
+fn put_report(
+    alloc: Global,
+    out: &mut Object,
+    about: About<'_>,
+    found: Findings<'_>,
+    times: Times,
+) -> Result<(), AllocError>
+    requires { held out.old ≡ no_members }
+    ensures { OnOk result ((seconds : Data) × AreTimes times seconds × (object (held out.new) ≡ report_value about.entry found.entry.verdict.now [] found.entry.dates.now found.entry.notes.now found.entry.tallies.now seconds)) }
+{
+    put_about(alloc, out, about)?;
+    put_verdict(alloc, out, found)?;
+    let notes = values_of_notes(alloc, found.notes)?;
+    out.put("notes", Value::Array(notes))?;
+    put_tallies(alloc, out, found.tallies)?;
+    let seconds = value_of_times(alloc, times)?;
+    out.put("seconds", seconds)?;
+    out.put("timestamps_read", Value::Bool(found.dates.read))?;
+    Ok(())
 }
 
 #[tactic(auto, unfolding(crate::specs::Reports::with_about))]

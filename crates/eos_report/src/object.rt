@@ -2,7 +2,7 @@
 
 ghost use Rattle.std.specs.Prelude.{◌≡◌, IfOk, OnOk, codes};
 ghost use Rattle.serde_json.specs.Data.{no_members, put as with_member, object, string};
-ghost use Rattle.serde_json.specs.View.{view, members_view};
+ghost use Rattle.serde_json.specs.View.{view};
 ghost use Rattle.eos_report.specs.steps.Held.{held};
 ghost use Rattle.hex.specs.Hex.{encode_lower};
 ghost use Rattle.eos_report.specs.Values.{text_value, count, integer, with_partition, with_place, place_value};
@@ -26,13 +26,6 @@ impl Object {
             alloc,
             members: Map::new(alloc),
         }
-    }
-
-    /// One that has these members already.
-    pub(crate) fn of(alloc: Global, members: Map<String, Value>) -> Object
-        ensures { held result ≡ members_view members.entries }
-    {
-        Object { alloc, members }
     }
 
     /// Puts a member in, or in the place of one of its name.
