@@ -16,6 +16,7 @@ use Rattle.eos_commits.specs.EvidenceLogs.{AreLogsOf}
 use Rattle.eos_source_check.specs.AllFaults.{AreAllFaults}
 use Rattle.eos_notes.specs.Lines.{IsAllNotesText}
 use Rattle.eos_notes.specs.Notes.{AreAllNotes}
+use Rattle.eos_verdict.specs.Counts.{counts_line}
 use Rattle.eos_verdict.specs.VerdictTexts.{verdict_line}
 use Rattle.eos_story.specs.PlaceOfFault.{place_in}
 use Rattle.eos_story.specs.declared.row.Row.{Row}
@@ -40,8 +41,8 @@ abbrev pub AreWhole : EvidenceParts → List PartLog → Verdict → List Row �
 AreWhole e logs (Yes counts) rows = ⊤
 AreWhole e logs (No fault) rows = IsWhole e logs fault rows
 
--- the text is the story of the fault that this verdict names: of true rows that answer all questions, with its page and the notes
--- of the evidence, in this folder
+-- the text is the story of the fault that this verdict names: of true rows that answer all questions, with its page, the line of how
+-- many faults there are in this list of all, and of which kinds, and the notes of the evidence, in this folder
 pub record IsStoryOf (folder : List ℕ) (e : EvidenceParts) (logs : List PartLog) (told : List Verdict) (verdict : Verdict) (text : List ℕ) : Type 0 where
   pub story : Story
   pub in_folder : story.folder.now ≡ folder
@@ -51,7 +52,7 @@ pub record IsStoryOf (folder : List ℕ) (e : EvidenceParts) (logs : List PartLo
   pub of_these : story.partitions.now ≡ e.partitions
   pub whole : AreWhole e logs verdict story.rows.now
   pub page : HasItsPage verdict (option_copied story.page)
-  pub list : story.told.now ≡ told
+  pub counted : story.counts.now ≡ counts_line told
   pub notes : AreAllNotes e story.notes.now
   pub says : text ≡ story_text story
 

@@ -1,6 +1,7 @@
 pub mod Explaining
 pub mod FirstStories
 pub mod Folders
+pub mod Kinds
 pub mod Refused
 pub mod steps
 pub mod Records

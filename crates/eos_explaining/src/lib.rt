@@ -6,6 +6,7 @@ mod answer;
 mod batches;
 mod command;
 mod folder;
+mod kinds;
 mod lines;
 mod paths;
 mod records;
