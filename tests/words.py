@@ -4,7 +4,7 @@ them in its name this table says that it is meant so, and of the pages that say 
 
     python3 -B tests/words.py
 
-    place  a partition and an offset in it
+    place  a partition and an offset in it; a text's (`TextPlace`) is one among the bytes of other texts
     fold   the file that is kept of a segment, and its making; a byte fold (`ByteFold`) is a given name
     run    consecutive segments of one partition, and what is known of their batches
     part   a partition's log
@@ -27,8 +27,8 @@ TABLE = {
         eos_explaining: push_first_place push_place_command push_row_place push_segment_place
         eos_faults: LentPlace OutputPlaces lesser_place own_place place_in places_of take_place
         eos_lineage: own_place_if
-        eos_picture: TxnPlace name_of_place push_place
-        eos_reading: places
+        eos_picture: TxnPlace push_place
+        eos_reading: TextPlace place_behind places text_place
         eos_report: put_place value_of_place
         eos_sought: names_place
         eos_story: place copy_place place_at place_of push_place is_same_place
@@ -41,7 +41,7 @@ TABLE = {
             verify_folds write_fold
         eos_disk: FoldRefusal first_fold refused_fold
         eos_fold: ByteFold fold
-        eos_fold_file: FoldFault FoldField FoldFile FoldHead FoldKept FoldText FoldTexts decode_fold encode_fold fold fold_of read_fold write_fold
+        eos_fold_file: FoldFault FoldField FoldFile FoldHead FoldKept FoldText FoldTextList FoldTexts decode_fold encode_fold fold fold_of read_fold write_fold
         eos_kept: SegmentFold fold
         eos_source: fold read_fold
         eos_words: FOLD FOLDS FOLD_USAGE FOLD_WRITES Fold fold_arguments read_fold
@@ -60,7 +60,7 @@ TABLE = {
         eos_kept: KeptPart Part log_part part
         eos_lineage: parts take_part
         eos_notes: count_part count_part_if
-        eos_sought: take_part
+        eos_sought: take_part walk_part
         eos_table: closes_of_part markers_of_part name_of_part take_part
         eos_faults: take_part
         """,
