@@ -4,7 +4,7 @@ them in its name this table says that it is meant so, and of the pages that say 
 
     python3 -B tests/words.py
 
-    place  a partition and an offset in it; a text's (`TextPlace`) is one among the bytes of other texts
+    place  a partition and an offset in it
     fold   the file that is kept of a segment, and its making; a byte fold (`ByteFold`) is a given name
     run    consecutive segments of one partition, and what is known of their batches
     part   a partition's log
@@ -28,7 +28,7 @@ TABLE = {
         eos_faults: LentPlace OutputPlaces lesser_place own_place place_in places_of take_place
         eos_lineage: own_place_if
         eos_picture: TxnPlace push_place
-        eos_reading: TextPlace place_behind places text_place
+        eos_reading: places
         eos_report: put_place value_of_place
         eos_sought: names_place
         eos_story: place copy_place place_at place_of push_place is_same_place

@@ -4,4 +4,4 @@ pub mod Fed
 pub mod Forms
 pub mod Keeping
 pub mod TextForms
-pub mod TextPlaces
+pub mod TextEnds

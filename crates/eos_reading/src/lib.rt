@@ -27,7 +27,7 @@ pub mod reading_laws;
 mod record;
 mod seals;
 mod text;
-mod text_place;
+mod text_end;
 mod texts;
 mod wanted;
 mod wants;

@@ -3,11 +3,11 @@
 ghost use Rattle.std.specs.Prelude.{◌≡◌, ◌+◌, ◌≤◌, ◌<◌, ◌^◌, ◌++◌, ◌∷◌, [], All, IsTrue, IfOk, IfSome, OnOk, OnErr, Some, None, if◌then◌else◌, is_ok, length, take, map, option_map, slice_get, slice_range};
 ghost use Rattle.std.specs.Vec.{vec_len, vec_capacity};
 ghost use Rattle.eos_reading.specs.Records.{record_of};
-ghost use Rattle.eos_reading.specs.steps.TextPlaces.{behind, end_of, moved, text_of};
+ghost use Rattle.eos_reading.specs.steps.TextEnds.{behind, end_of, moved, text_of};
 
 use crate::record::KeptRecord;
 use crate::text::bytes_of;
-use crate::text_place::{LIMIT, TextPlace};
+use crate::text_end::{LIMIT, TextEnd};
 use std::alloc::{AllocError, Global};
 use std::marker::Model;
 
@@ -16,51 +16,51 @@ use std::marker::Model;
 #[derive(Drop)]
 pub(crate) struct PackedTexts {
     bytes: Vec<u8>,
-    places: Vec<TextPlace>,
+    ends: Vec<TextEnd>,
 }
 
 impl Model for PackedTexts {
     ghost use Rattle.std.specs.Prelude.{length};
     ghost use Rattle.std.specs.Vec.{vec_capacity};
-    ghost use Rattle.eos_reading.specs.steps.TextPlaces.{PackedView, Reaches, texts_from};
+    ghost use Rattle.eos_reading.specs.steps.TextEnds.{PackedView, Reaches, texts_from};
 
     ghost Value = { PackedView };
 
-    ghost view = { λ t. record { list = texts_from 0 t.places.items t.bytes.items; size = length t.bytes.items; room = vec_capacity t.places; bytes_room = vec_capacity t.bytes } };
+    ghost view = { λ t. record { list = texts_from 0 t.ends.items t.bytes.items; size = length t.bytes.items; room = vec_capacity t.ends; bytes_room = vec_capacity t.bytes } };
 
-    ghost invariant = { λ t. Reaches 0 t.places.items (length t.bytes.items) };
+    ghost invariant = { λ t. Reaches 0 t.ends.items (length t.bytes.items) };
 }
 
 /// Where the first so many end.
-fn end_of(places: &[TextPlace], count: usize) -> usize
-    requires { count ≤ length places.now }
-    ensures { result ≡ end_of 0 places.now count }
+fn end_of(ends: &[TextEnd], count: usize) -> usize
+    requires { count ≤ length ends.now }
+    ensures { result ≡ end_of 0 ends.now count }
 {
     if count == 0 {
         return 0;
     }
-    places[count - 1].end()
+    ends[count - 1].end()
 }
 
-/// The record of this place, which begins here, lent.
-fn lent<'a>(place: &TextPlace, begin: usize, bytes: &'a [u8]) -> KeptRecord<'a>
-    requires key { begin + place.now.key ≤ place.now.end }
-    requires end { place.now.end ≤ length bytes.now }
-    ensures { result ≡ text_of place.now (slice_range bytes.now begin place.now.end) }
+/// The record whose bytes begin here and end there, lent.
+fn lent<'a>(text: &TextEnd, begin: usize, bytes: &'a [u8]) -> KeptRecord<'a>
+    requires key { begin + text.now.key ≤ text.now.end }
+    requires end { text.now.end ≤ length bytes.now }
+    ensures { result ≡ text_of text.now (slice_range bytes.now begin text.now.end) }
 {
-    let (front, back) = bytes[begin..place.end()].split_at(place.key());
-    let key = if place.has_key() { Some(front) } else { None };
-    let value = if place.has_value() { Some(back) } else { None };
+    let (front, back) = bytes[begin..text.end()].split_at(text.key());
+    let key = if text.has_key() { Some(front) } else { None };
+    let value = if text.has_value() { Some(back) } else { None };
     KeptRecord::of_text(key, value, None)
 }
 
-/// The place of a key and a value behind so many bytes, where its numbers aren't too great.
-fn place_behind(before: usize, key: Option<&[u8]>, value: Option<&[u8]>) -> Option<TextPlace>
-    ensures { IfSome result (λ place. place ≡ behind before (option_map (λ s. s.now) key.entry) (option_map (λ s. s.now) value.entry)) }
+/// Where a key and a value end behind so many bytes, where its numbers aren't too great.
+fn end_behind(before: usize, key: Option<&[u8]>, value: Option<&[u8]>) -> Option<TextEnd>
+    ensures { IfSome result (λ text. text ≡ behind before (option_map (λ s. s.now) key.entry) (option_map (λ s. s.now) value.entry)) }
 {
     let front = bytes_of(key).len();
     let size = front.checked_add(bytes_of(value).len())?;
-    TextPlace::new(
+    TextEnd::new(
         before.checked_add(size)?,
         front,
         key.is_some(),
@@ -83,14 +83,14 @@ fn push_both(bytes: &mut Vec<u8>, key: &[u8], value: &[u8]) -> Result<(), AllocE
     Ok(())
 }
 
-/// Puts these places at the end, each further back by so many bytes, where there is room.
-fn append_moved(places: &mut Vec<TextPlace>, more: &[TextPlace], by: usize)
-    requires room { vec_len places.old + length more.now ≤ vec_capacity places.old }
-    requires bound { All (λ place. by + place.end < 2 ^ 40) more.now }
-    ensures { places.new.items ≡ places.old.items ++ map (moved by) more.now }
+/// Puts these behind the others, each further back by so many bytes, where there is room.
+fn append_moved(ends: &mut Vec<TextEnd>, more: &[TextEnd], by: usize)
+    requires room { vec_len ends.old + length more.now ≤ vec_capacity ends.old }
+    requires bound { All (λ text. by + text.end < 2 ^ 40) more.now }
+    ensures { ends.new.items ≡ ends.old.items ++ map (moved by) more.now }
 {
-    for place in more {
-        places.push_reserved(place.moved(by));
+    for text in more {
+        ends.push_reserved(text.moved(by));
     }
 }
 
@@ -100,7 +100,7 @@ impl PackedTexts {
     {
         PackedTexts {
             bytes: Vec::new(alloc),
-            places: Vec::new(alloc),
+            ends: Vec::new(alloc),
         }
     }
 
@@ -111,7 +111,7 @@ impl PackedTexts {
     pub(crate) fn len(&self) -> usize
         ensures { result ≡ length self.now.list }
     {
-        self.places.len()
+        self.ends.len()
     }
 
     /// What is kept of the record at this place, lent.
@@ -120,9 +120,9 @@ impl PackedTexts {
         ensures lent { slice_get self.now.list i ≡ Some result }
         ensures plain { result ≡ record_of result.key result.value None }
     {
-        let place = &self.places[i];
-        let begin = end_of(self.places.as_slice(), i);
-        lent(place, begin, self.bytes.as_slice())
+        let text = &self.ends[i];
+        let begin = end_of(self.ends.as_slice(), i);
+        lent(text, begin, self.bytes.as_slice())
     }
 
     /// Puts copies of a record's key and value at the end, where there are numbers for it, and returns whether there are.
@@ -137,12 +137,12 @@ impl PackedTexts {
         ensures ok { IfOk result (λ fits. self.new.list ≡ (if fits then self.old.list ++ record_of (option_map (λ s. s.now) key.entry) (option_map (λ s. s.now) value.entry) None ∷ [] else self.old.list)) }
         ensures err { OnErr result (self.new.list ≡ self.old.list) }
     {
-        let Some(place) = place_behind(self.bytes.len(), key, value) else {
+        let Some(text) = end_behind(self.bytes.len(), key, value) else {
             return Ok(false);
         };
-        self.places.reserve(1)?;
+        self.ends.reserve(1)?;
         push_both(&mut self.bytes, bytes_of(key), bytes_of(value))?;
-        self.places.push_reserved(place);
+        self.ends.push_reserved(text);
         Ok(true)
     }
 
@@ -150,12 +150,12 @@ impl PackedTexts {
     pub(crate) fn truncate(&mut self, count: usize)
         ensures { self.new.list ≡ take count self.old.list }
     {
-        if self.places.len() <= count {
+        if self.ends.len() <= count {
             return;
         }
-        let end = end_of(self.places.as_slice(), count);
+        let end = end_of(self.ends.as_slice(), count);
         self.bytes.truncate(end);
-        self.places.truncate(count);
+        self.ends.truncate(count);
     }
 
     /// Makes room for others behind these, where there are numbers for them, and returns whether there are.
@@ -171,7 +171,7 @@ impl PackedTexts {
         if self.bytes.len() >= LIMIT || more.bytes.len() >= LIMIT - self.bytes.len() {
             return Ok(false);
         }
-        self.places.reserve(more.places.len())?;
+        self.ends.reserve(more.ends.len())?;
         self.bytes.reserve(more.bytes.len())?;
         Ok(true)
     }
@@ -184,7 +184,7 @@ impl PackedTexts {
         ensures { self.new.list ≡ self.old.list ++ more.now.list }
     {
         let by = self.bytes.len();
-        append_moved(&mut self.places, more.places.as_slice(), by);
+        append_moved(&mut self.ends, more.ends.as_slice(), by);
         let Ok(()) = self.bytes.extend_from_slice(more.bytes.as_slice()) else {
             unreachable!()
         };

@@ -1,7 +1,7 @@
 //! Where a record's key and value lie among those of others.
 
 ghost use Rattle.std.specs.Prelude.{◌≡◌, ◌+◌, ◌<◌, ◌^◌, IfSome};
-ghost use Rattle.eos_reading.specs.steps.TextPlaces.{key_in, value_in, moved};
+ghost use Rattle.eos_reading.specs.steps.TextEnds.{key_in, value_in, moved};
 
 use std::marker::Model;
 
@@ -22,7 +22,7 @@ enum Present {
 
 /// Where a record's bytes end among those of others, and how many of them are its key's. A log has many, so it is small.
 #[derive(Drop)]
-pub(crate) struct TextPlace {
+pub(crate) struct TextEnd {
     /// The end is a number of 40 bits.
     low: u32,
     key: u16,
@@ -30,13 +30,13 @@ pub(crate) struct TextPlace {
     present: Present,
 }
 
-const _: () = prove!(size_of::<TextPlace>() <= 8);
+const _: () = prove!(size_of::<TextEnd>() <= 8);
 
-impl Model for TextPlace {
+impl Model for TextEnd {
     ghost use Rattle.std.specs.Prelude.{◌+◌, ◌*◌, ◌^◌};
-    ghost use Rattle.eos_reading.specs.steps.TextPlaces.{PlaceView, key_in, value_in};
+    ghost use Rattle.eos_reading.specs.steps.TextEnds.{EndView, key_in, value_in};
 
-    ghost Value = { PlaceView };
+    ghost Value = { EndView };
 
     ghost view = { λ p. record { end = p.high * 2 ^ 32 + p.low; key = p.key; has_key = key_in p.present; has_value = value_in p.present } };
 }
@@ -56,11 +56,11 @@ fn which_of(key: bool, value: bool) -> Present
 }
 
 /// Of these numbers.
-fn at(end: usize, key: u16, present: Present) -> TextPlace
+fn at(end: usize, key: u16, present: Present) -> TextEnd
     requires { end < 2 ^ 40 }
     ensures { result ≡ record { end = end; key = key; has_key = key_in present; has_value = value_in present } }
 {
-    TextPlace {
+    TextEnd {
         low: (end % SPAN) as u32,
         key,
         high: (end / SPAN) as u8,
@@ -68,10 +68,10 @@ fn at(end: usize, key: u16, present: Present) -> TextPlace
     }
 }
 
-impl TextPlace {
+impl TextEnd {
     /// Of a record that has these and whose bytes end here, unless a number is too great: an end of 2^40, or a key of 2^16 bytes.
-    pub(crate) fn new(end: usize, key: usize, has_key: bool, has_value: bool) -> Option<TextPlace>
-        ensures { IfSome result (λ place. place ≡ record { end = end; key = key; has_key = has_key; has_value = has_value }) }
+    pub(crate) fn new(end: usize, key: usize, has_key: bool, has_value: bool) -> Option<TextEnd>
+        ensures { IfSome result (λ text. text ≡ record { end = end; key = key; has_key = has_key; has_value = has_value }) }
     {
         if end >= LIMIT {
             return None;
@@ -115,7 +115,7 @@ impl TextPlace {
     }
 
     /// The same, further back by so many bytes.
-    pub(crate) fn moved(&self, by: usize) -> TextPlace
+    pub(crate) fn moved(&self, by: usize) -> TextEnd
         requires { by + self.now.end < 2 ^ 40 }
         ensures { result ≡ moved by self.now }
     {
