@@ -7,4 +7,6 @@ mod LinesOnce
 mod LinesShown
 mod PartsTold
 mod StoriesMore
-mod EpochsRead
+mod FindingsTold
+mod KindsCounted
+mod PickedFaults

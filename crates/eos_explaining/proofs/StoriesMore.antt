@@ -24,15 +24,15 @@ then_one folder e logs told [] (x ∷ ts) v t are is = absurd are
 then_one folder e logs told (w ∷ vs) [] v t are is = absurd are
 then_one folder e logs told (w ∷ vs) (x ∷ ts) v t are is = (are.0, then_one folder e logs told vs ts v t are.1 is)
 
-pub story_more : (folder : List ℕ) (e : EvidenceParts) (logs : List PartLog) (told : List Verdict) (texts : List (String Global)) (i : ℕ) (v : Verdict) (text : String Global)
-    → AreStoriesOf folder e logs told (take i told) (map string_bytes texts) → slice_get told i ≡ Some v → IsStoryOf folder e logs told v (string_bytes text)
-    → AreStoriesOf folder e logs told (take (i + 1) told) (map string_bytes (texts ++ (text ∷ [])))
-story_more folder e logs told texts i v text are at is =
+pub story_more : (folder : List ℕ) (e : EvidenceParts) (logs : List PartLog) (all told : List Verdict) (texts : List (String Global)) (i : ℕ) (v : Verdict) (text : String Global)
+    → AreStoriesOf folder e logs all (take i told) (map string_bytes texts) → slice_get told i ≡ Some v → IsStoryOf folder e logs all v (string_bytes text)
+    → AreStoriesOf folder e logs all (take (i + 1) told) (map string_bytes (texts ++ (text ∷ [])))
+story_more folder e logs all told texts i v text are at is =
     let next : i + 1 ≡ suc i = omega arith in
-    let all = then_one folder e logs told (take i told) (map string_bytes texts) v (string_bytes text) are is in
-    let of_texts = subst (λ (ts : List (List ℕ)). AreStoriesOf folder e logs told (take i told ++ (v ∷ [])) ts) (sym (map-append string_bytes texts (text ∷ []))) all in
-    let of_told = subst (λ (vs : List Verdict). AreStoriesOf folder e logs told vs (map string_bytes (texts ++ (text ∷ [])))) (sym (one_more told i v at)) of_texts in
-    subst (λ (n : ℕ). AreStoriesOf folder e logs told (take n told) (map string_bytes (texts ++ (text ∷ [])))) (sym next) of_told
+    let more = then_one folder e logs all (take i told) (map string_bytes texts) v (string_bytes text) are is in
+    let of_texts = subst (λ (ts : List (List ℕ)). AreStoriesOf folder e logs all (take i told ++ (v ∷ [])) ts) (sym (map-append string_bytes texts (text ∷ []))) more in
+    let of_told = subst (λ (vs : List Verdict). AreStoriesOf folder e logs all vs (map string_bytes (texts ++ (text ∷ [])))) (sym (one_more told i v at)) of_texts in
+    subst (λ (n : ℕ). AreStoriesOf folder e logs all (take n told) (map string_bytes (texts ++ (text ∷ [])))) (sym next) of_told
 
 -- where it is known what stands below the folder, they are those of the evidence that stands there
 pub known_stories : (holds : List ℕ → Entry) (folder : List ℕ) (most : ℕ) (texts : List (List ℕ)) (e : EvidenceParts)

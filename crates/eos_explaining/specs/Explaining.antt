@@ -13,9 +13,11 @@ use Rattle.eos_verdict.specs.declared.verdict.Counts.{Counts}
 use Rattle.eos_evidence.specs.Evidence.{EvidenceParts}
 use Rattle.eos_fold.specs.Parts.{PartLog}
 use Rattle.eos_commits.specs.EvidenceLogs.{AreLogsOf}
+use Rattle.eos_reading.specs.Wanted.{wanted_logs}
 use Rattle.eos_source_check.specs.AllFaults.{AreAllFaults}
 use Rattle.eos_notes.specs.Lines.{IsAllNotesText}
 use Rattle.eos_notes.specs.Notes.{AreAllNotes}
+use Rattle.eos_verdict.specs.Counts.{counts_line}
 use Rattle.eos_verdict.specs.VerdictTexts.{verdict_line}
 use Rattle.eos_story.specs.PlaceOfFault.{place_in}
 use Rattle.eos_story.specs.declared.row.Row.{Row}
@@ -40,8 +42,8 @@ abbrev pub AreWhole : EvidenceParts → List PartLog → Verdict → List Row �
 AreWhole e logs (Yes counts) rows = ⊤
 AreWhole e logs (No fault) rows = IsWhole e logs fault rows
 
--- the text is the story of the fault that this verdict names: of true rows that answer all questions, with its page and the notes
--- of the evidence, in this folder
+-- the text is the story of the fault that this verdict names: of rows that are true of these logs and answer all questions, with its
+-- page, the line of how many faults there are in this list of all, and of which kinds, and the notes of the evidence, in this folder
 pub record IsStoryOf (folder : List ℕ) (e : EvidenceParts) (logs : List PartLog) (told : List Verdict) (verdict : Verdict) (text : List ℕ) : Type 0 where
   pub story : Story
   pub in_folder : story.folder.now ≡ folder
@@ -51,7 +53,7 @@ pub record IsStoryOf (folder : List ℕ) (e : EvidenceParts) (logs : List PartLo
   pub of_these : story.partitions.now ≡ e.partitions
   pub whole : AreWhole e logs verdict story.rows.now
   pub page : HasItsPage verdict (option_copied story.page)
-  pub list : story.told.now ≡ told
+  pub counted : story.counts.now ≡ counts_line told
   pub notes : AreAllNotes e story.notes.now
   pub says : text ≡ story_text story
 
@@ -62,6 +64,10 @@ pub record AreTold (e : EvidenceParts) (logs : List PartLog) (told : List Verdic
   pub are : AreAllFaults e logs of faults
   pub named : told ≡ map No faults
 
+-- the logs as a story sees them: all that they say, or what is wanted of it
+abbrev pub AreSeen : EvidenceParts → List PartLog → List PartLog → Type 0
+AreSeen e logs seen = (seen ≡ logs) ⊎ (seen ≡ wanted_logs e.spec.apps logs)
+
 -- the story of the fault of this number, counted from 1
 pub record IsTheStory (folder : List ℕ) (e : EvidenceParts) (number : ℕ) (text : List ℕ) : Type 0 where
   pub logs : List PartLog
@@ -71,7 +77,9 @@ pub record IsTheStory (folder : List ℕ) (e : EvidenceParts) (number : ℕ) (te
   pub numbered : number ≡ suc before
   pub verdict : Verdict
   pub at : slice_get told before ≡ Some verdict
-  pub story : IsStoryOf folder e logs told verdict text
+  pub seen : List PartLog
+  pub sees : AreSeen e logs seen
+  pub story : IsStoryOf folder e seen told verdict text
 
 -- there are so many, and this number is none of theirs
 pub record AreFewer (e : EvidenceParts) (number count : ℕ) : Type 0 where

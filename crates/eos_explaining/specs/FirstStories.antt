@@ -3,7 +3,7 @@ use Rattle.std.specs.Prelude.{⊤, ℕ, List, [], ◌∷◌, take}
 use Rattle.eos_verdict.specs.declared.verdict.Verdict.{Verdict}
 use Rattle.eos_evidence.specs.Evidence.{EvidenceParts}
 use Rattle.eos_fold.specs.Parts.{PartLog}
-use Rattle.eos_explaining.specs.Explaining.{AreTold, IsStoryOf}
+use Rattle.eos_explaining.specs.Explaining.{AreTold, AreSeen, IsStoryOf}
 
 -- of each of these verdicts one text, which is the story of its fault
 abbrev pub AreStoriesOf : List ℕ → EvidenceParts → List PartLog → List Verdict → List Verdict → List (List ℕ) → Type 0
@@ -17,4 +17,6 @@ pub record AreFirstStories (folder : List ℕ) (e : EvidenceParts) (most : ℕ) 
   pub logs : List PartLog
   pub told : List Verdict
   pub are : AreTold e logs told
-  pub each : AreStoriesOf folder e logs told (take most told) texts
+  pub seen : List PartLog
+  pub sees : AreSeen e logs seen
+  pub each : AreStoriesOf folder e seen told (take most told) texts

@@ -8,7 +8,6 @@ use Rattle.eos_notes.specs.Texts.{note_lines}
 use Rattle.eos_verdict.specs.VerdictTexts.{verdict_line}
 use Rattle.eos_story.specs.declared.row.Row.{Row}
 use Rattle.eos_explaining.specs.declared.whole_story.Story.{Story}
-use Rattle.eos_verdict.specs.Counts.{counts_line}
 use Rattle.eos_explaining.specs.Lines.{joined}
 use Rattle.eos_explaining.specs.RowLines.{more_line}
 use Rattle.eos_explaining.specs.Sentences.{sentences_text, shown_of}
@@ -46,4 +45,4 @@ unfoldable pub story_text : Story → List ℕ
 story_text s =
     verdict_line s.verdict.now
     ++ (rows_text (lines_of_story s) ++ (page_text (option_copied s.place) s.rows.now (option_copied s.page)
-    ++ (counts_line s.told.now ++ (notes_text s.notes.now ++ next_text s))))
+    ++ (s.counts.now ++ (notes_text s.notes.now ++ next_text s))))

@@ -1,2 +1,5 @@
 -- What only private functions promise: steps towards what the public calls say.
 pub mod Tellings
+pub mod Found
+pub mod Counting
+pub mod Kinds

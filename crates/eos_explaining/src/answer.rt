@@ -1,25 +1,21 @@
 //! The answer of `explain` for an evidence.
 
-ghost use Rattle.std.specs.Prelude.{◌≡◌, ◌<◌, false, IfOk, OnErr, Err, map, string_bytes};
-ghost use Rattle.eos_verdict.specs.declared.verdict.Verdict.TheVariants.{No};
-ghost use Rattle.eos_check.specs.Verdicts.{IsVerdict};
-ghost use Rattle.eos_check.specs.WholeLogs.{AreWholeLogs};
-ghost use Rattle.eos_evidence.specs.Evidence.{IsEvidence};
-ghost use Rattle.eos_kept.specs.Parts.{HaveEpochs};
+ghost use Rattle.std.specs.Prelude.{◌<◌, ◌≤◌, ◌-◌, false, ℕ, List, IfOk, IfSome, string_bytes};
 ghost use Rattle.eos_notes.specs.Lines.{IsAllNotesText};
 ghost use Rattle.eos_notes.specs.Notes.{AreAllNotes};
-ghost use Rattle.eos_explaining.specs.Explaining.{IsAnswer};
+ghost use Rattle.eos_source_check.specs.Judged.{IsJudgedFor};
+ghost use Rattle.eos_explaining.specs.Explaining.{IsAnswer, IsTheStory};
+ghost use Rattle.eos_explaining.specs.steps.Found.{AreFindings, AreItsSeen};
 
-use crate::story::{About, story_at};
-use eos_base::{Listed, Workers};
+use crate::kinds::{Pick, line_of, picked_of};
+use crate::seen::{seen_of, whole_logs};
+use crate::story::{About, story_of};
+use eos_base::Workers;
 use eos_board::Gate;
-use eos_check::{Fault, Verdict, logs_of, verdict_of};
+use eos_check::Verdict;
 use eos_evidence::Evidence;
-use eos_kept::Logs;
 use eos_notes::{Note, all_lines, all_notes};
-use eos_reading::EpochEntry;
-use eos_source::{KeptLogs, MemorySource, kept_logs};
-use eos_source_check::all_faults;
+use eos_source_check::{Judged, all_faults, judge_evidence};
 use eos_story::Scene;
 use eos_verdict::verdict_line;
 use std::alloc::{AllocError, Global};
@@ -47,142 +43,100 @@ pub enum Answer {
     Fewer(u64),
 }
 
-/// The logs of an evidence, over its segments' bytes, and where the leader epochs of its partitions change.
-#[derive(Clone, Copy)]
-pub(crate) struct Whole<'a> {
-    pub(crate) logs: &'a Logs,
-    pub(crate) epochs: &'a [Listed<EpochEntry>],
+/// How many faults an evidence has, the line that says of which kinds, those that are held, each as the verdict that names it, and the
+/// notes.
+#[derive(Drop)]
+pub(crate) struct Findings {
+    pub(crate) all: u64,
+    pub(crate) line: String,
+    pub(crate) told: Vec<Verdict>,
+    pub(crate) notes: Vec<Note>,
 }
 
-/// Each fault as the verdict that names it.
-pub(crate) fn verdicts_of(alloc: Global, faults: Vec<Fault>) -> Result<Vec<Verdict>, AllocError>
-    ensures { IfOk result (λ told. told.items ≡ map No faults.items) }
-{
-    let mut told = Vec::new(alloc);
-    for fault in faults {
-        told.push(Verdict::No(fault))?;
-    }
-    Ok(told)
-}
-
-/// Its partitions are those of an evidence.
-fn is_evidence(evidence: &Evidence)
-    ensures { IsEvidence evidence.now }
-{
-    evidence.partitions();
-}
-
-/// Of what is kept, where leader epochs change.
-fn epochs_in(kept: KeptLogs) -> Vec<Listed<EpochEntry>>
-    ensures { result.items ≡ kept.epochs.items }
-{
-    let KeptLogs { epochs, .. } = kept;
-    epochs
-}
-
-/// Where the leader epochs of the evidence's partitions change. Its segments are read once more for that, and nothing else of them is
-/// kept.
-///
-/// # Errors
-/// Only want of memory.
-pub(crate) fn epochs_of(
-    alloc: Global,
-    rt: &(impl Threads + Sync),
-    evidence: &Evidence,
-    workers: Workers,
-) -> Result<Vec<Listed<EpochEntry>>, AllocError>
-    ensures { IfOk result (λ epochs. HaveEpochs evidence.now.partitions epochs.items) }
-{
-    is_evidence(evidence);
-    let source = MemorySource { evidence };
-    match kept_logs(alloc, rt, &source, evidence, workers) {
-        Ok(kept) => Ok(epochs_in(kept)),
-        // Each piece is there, is no fold and is read to its end.
-        Err(_) => Err(AllocError),
-    }
-}
-
-/// The notes of the evidence.
-pub(crate) fn noted(
-    alloc: Global,
-    evidence: &Evidence,
-    whole: Whole<'_>,
-) -> Result<Vec<Note>, AllocError>
-    requires logs { AreWholeLogs evidence.now.partitions whole.logs.now }
-    requires epochs { HaveEpochs evidence.now.partitions whole.epochs.now }
+/// The notes of the evidence that was judged.
+fn noted(alloc: Global, evidence: &Evidence, judged: &Judged) -> Result<Vec<Note>, AllocError>
+    requires { IsJudgedFor judged.now evidence.now }
     ensures { IfOk result (λ found. AreAllNotes evidence.now found.items) }
 {
-    let found = all_notes(alloc, evidence.spec(), whole.logs, whole.epochs)?;
+    let epochs = judged.epochs.as_slice();
+    let found = all_notes(alloc, evidence.spec(), &judged.logs, epochs)?;
     Ok(found)
 }
 
 /// The lines of these notes.
-fn noted_lines(alloc: Global, evidence: &Evidence, whole: Whole<'_>) -> Result<String, AllocError>
-    requires logs { AreWholeLogs evidence.now.partitions whole.logs.now }
-    requires epochs { HaveEpochs evidence.now.partitions whole.epochs.now }
+fn noted_lines(alloc: Global, evidence: &Evidence, judged: &Judged) -> Result<String, AllocError>
+    requires { IsJudgedFor judged.now evidence.now }
     ensures { IfOk result (λ text. IsAllNotesText evidence.now false (string_bytes text)) }
 {
-    let text = all_lines(alloc, evidence.spec(), whole.logs, whole.epochs, false)?;
+    let epochs = judged.epochs.as_slice();
+    let text = all_lines(alloc, evidence.spec(), &judged.logs, epochs, false)?;
     Ok(text)
 }
 
-fn of_faults(
+/// What was found in the evidence that was judged, with the faults that are picked. The list of all faults is dropped as
+/// soon as they are counted.
+pub(crate) fn found_in(
     alloc: Global,
     evidence: &Evidence,
-    whole: Whole<'_>,
-    asked: &Asked<'_>,
-) -> Result<Answer, AllocError>
-    requires logs { AreWholeLogs evidence.now.partitions whole.logs.now }
-    requires epochs { HaveEpochs evidence.now.partitions whole.epochs.now }
-    ensures { IfOk result (IsAnswer asked.now.folder.now evidence.now asked.now.number) }
+    judged: &Judged,
+    pick: Pick,
+) -> Result<Findings, AllocError>
+    requires { IsJudgedFor judged.now evidence.now }
+    ensures { IfOk result (AreFindings evidence.now pick.from pick.most) }
 {
-    let number = asked.number;
-    let faults = all_faults(alloc, evidence, whole.logs)?;
-    let told = verdicts_of(alloc, faults)?;
-    let count = told.len() as u64;
-    if number == 0 || number > count {
-        return Ok(Answer::Fewer(count));
-    }
-    let scene = Scene {
-        alloc,
-        evidence,
-        logs: whole.logs.parts.as_slice(),
-    };
-    let found = noted(alloc, evidence, whole)?;
-    let place = (number - 1) as usize;
-    let about = About {
-        folder: asked.folder,
-        told: told.as_slice(),
-        notes: found.as_slice(),
-    };
-    let story = story_at(&scene, about, place)?;
-    Ok(Answer::Story(story))
+    let faults = all_faults(alloc, evidence, &judged.logs)?;
+    let picked = picked_of(alloc, faults, pick)?;
+    let line = line_of(alloc, &picked.counts)?;
+    let notes = noted(alloc, evidence, judged)?;
+    Ok(Findings {
+        all: picked.counts.all,
+        line,
+        told: picked.told,
+        notes,
+    })
 }
 
-fn of_verdict(
-    alloc: Global,
-    evidence: &Evidence,
-    whole: Whole<'_>,
-    verdict: &Verdict,
-    asked: &Asked<'_>,
-) -> Result<Answer, AllocError>
-    requires logs { AreWholeLogs evidence.now.partitions whole.logs.now }
-    requires epochs { HaveEpochs evidence.now.partitions whole.epochs.now }
-    requires verdict { IsVerdict evidence.now verdict.now }
-    ensures { IfOk result (IsAnswer asked.now.folder.now evidence.now asked.now.number) }
+/// The answer to an evidence that was judged, where the verdict is yes.
+fn yes_of(alloc: Global, evidence: &Evidence, judged: &Judged) -> Result<Option<Answer>, AllocError>
+    requires { IsJudgedFor judged.now evidence.now }
+    ensures { IfOk result (λ answer. (folder : List ℕ) (number : ℕ) → IfSome answer (IsAnswer folder evidence.now number)) }
 {
-    match verdict {
+    match &judged.verdict {
         Verdict::Yes(_) => {
-            let line = verdict_line(alloc, verdict)?;
-            let notes = noted_lines(alloc, evidence, whole)?;
-            Ok(Answer::Yes { line, notes })
+            let line = verdict_line(alloc, &judged.verdict)?;
+            let notes = noted_lines(alloc, evidence, judged)?;
+            Ok(Some(Answer::Yes { line, notes }))
         }
-        Verdict::No(_) => of_faults(alloc, evidence, whole, asked),
+        Verdict::No(_) => Ok(None),
     }
+}
+
+/// The story of the fault of this number, which alone is held.
+fn told_of_number(
+    scene: &Scene<'_>,
+    folder: &str,
+    found: &Findings,
+    number: u64,
+) -> Result<String, AllocError>
+    requires seen { AreItsSeen scene.now.evidence.now scene.now.logs.now }
+    requires found { AreFindings scene.now.evidence.now (number - 1) 1 found.now }
+    requires first { 0 < number }
+    requires inside { number ≤ found.now.all }
+    ensures { IfOk result (λ text. IsTheStory folder.now scene.now.evidence.now number (string_bytes text)) }
+{
+    let about = About {
+        folder,
+        counts: found.line.as_str(),
+        notes: found.notes.as_slice(),
+    };
+    let story = story_of(scene, about, &found.told[0])?;
+    Ok(story)
 }
 
 /// The story of a fault of the evidence, of this number in the list of all, from 1 on; or the line of a yes, or how many faults
-/// there are. The workers pass the gate.
+/// there are. The verdict, the list and the records of the story are worked out of what is kept of its logs, as by `check`, and of the list
+/// only that fault is held; where batches stand, and what headers say, is read of the bytes again. Only where a partition's topic is named
+/// by no application are all bytes folded for the story; the workers pass the gate then.
 ///
 /// # Errors
 /// Only want of memory.
@@ -195,12 +149,26 @@ pub fn explain<G: Gate>(
 ) -> Result<Answer, AllocError>
     ensures { IfOk result (IsAnswer asked.now.folder.now evidence.now asked.now.number) }
 {
-    let epochs = epochs_of(alloc, rt, evidence, asked.workers)?;
-    let logs = logs_of(alloc, rt, evidence, asked.workers, gate)?;
-    let verdict = verdict_of(alloc, rt, evidence, &logs, asked.workers)?;
-    let whole = Whole {
-        logs: &logs,
-        epochs: epochs.as_slice(),
+    let judged = judge_evidence(alloc, rt, evidence, asked.workers)?;
+    if let Some(answer) = yes_of(alloc, evidence, &judged)? {
+        return Ok(answer);
+    }
+    let number = asked.number;
+    let pick = Pick {
+        from: number.saturating_sub(1),
+        most: 1,
     };
-    of_verdict(alloc, evidence, whole, &verdict, asked)
+    let found = found_in(alloc, evidence, &judged, pick)?;
+    let count = found.all;
+    if number == 0 || number > count {
+        return Ok(Answer::Fewer(count));
+    }
+    let whole = whole_logs(alloc, rt, evidence, asked.workers, gate)?;
+    let scene = Scene {
+        alloc,
+        evidence,
+        logs: seen_of(evidence, &judged, whole.as_ref()),
+    };
+    let story = told_of_number(&scene, asked.folder, &found, number)?;
+    Ok(Answer::Story(story))
 }

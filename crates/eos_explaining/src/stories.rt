@@ -1,28 +1,30 @@
 //! The stories of the first faults of an evidence, which is read once for all of them.
 
-ghost use Rattle.std.specs.Prelude.{◌≡◌, ◌≤◌, length, map, take, List, IfOk, IfErr, string_bytes};
+ghost use Rattle.std.specs.Prelude.{◌≡◌, map, List, IfOk, IfErr, string_bytes};
+ghost use Rattle.eos_verdict.specs.Counts.{counts_line};
 ghost use Rattle.eos_verdict.specs.declared.verdict.Fault.{Fault as AFault};
+ghost use Rattle.eos_verdict.specs.declared.verdict.Verdict.{Verdict as Named};
 ghost use Rattle.eos_verdict.specs.declared.verdict.Verdict.TheVariants.{No};
-ghost use Rattle.eos_check.specs.WholeLogs.{AreWholeLogs};
 ghost use Rattle.eos_disk.specs.Reading.{IsReadWhole};
 ghost use Rattle.eos_disk.specs.Shapes.{AreKnown};
 ghost use Rattle.eos_evidence.specs.Evidence.{EvidenceParts};
-ghost use Rattle.eos_kept.specs.Parts.{HaveEpochs};
-ghost use Rattle.eos_commits.specs.EvidenceLogs.{AreLogsOf};
 ghost use Rattle.eos_notes.specs.Notes.{AreAllNotes};
 ghost use Rattle.eos_source.specs.Saying.{StandsAt};
 ghost use Rattle.eos_explaining.specs.Refused.{IsFirstOfWhole};
 ghost use Rattle.eos_explaining.specs.FirstStories.{AreStoriesOf, AreFirstStories};
+ghost use Rattle.eos_explaining.specs.steps.Found.{AreFindings, AreItsSeen};
 
-use crate::answer::{Whole, epochs_of, noted, verdicts_of};
+use crate::answer::{Findings, found_in};
 use crate::folder::Folder;
-use crate::story::{About, story_at};
+use crate::kinds::Pick;
+use crate::seen::{seen_of, whole_logs};
+use crate::story::{About, story_of};
 use eos_base::Workers;
 use eos_board::Gate;
-use eos_check::{Verdict, logs_of};
+use eos_check::Verdict;
 use eos_disk::{Disk, FolderFault, Reading, Watch, read_folder};
 use eos_evidence::Evidence;
-use eos_source_check::all_faults;
+use eos_source_check::judge_evidence;
 use eos_story::Scene;
 use std::alloc::{AllocError, Global};
 use std::sync::Wait;
@@ -38,58 +40,43 @@ pub struct First<'a> {
     pub most: usize,
 }
 
-/// How many of these are the first so many.
-#[tactic(auto, using(std::proofs::lemmas::List::take_min))]
-fn count_of(told: &[Verdict], most: usize) -> usize
-    ensures inside { result ≤ length told.now }
-    ensures first { take result told.now ≡ take most told.now }
-{
-    most.min(told.len())
-}
-
-/// The stories of the first of these faults, so many.
+/// The stories of the faults that these verdicts name.
 #[tactic(auto, using(crate::proofs::StoriesMore::story_more))]
-fn told_each(scene: &Scene<'_>, about: About<'_>, count: usize) -> Result<Vec<String>, AllocError>
-    requires logs { AreLogsOf scene.now.evidence.now.partitions scene.now.logs.now }
+fn told_each(
+    scene: &Scene<'_>,
+    about: About<'_>,
+    told: &[Verdict],
+) -> Result<Vec<String>, AllocError>
     requires notes { AreAllNotes scene.now.evidence.now about.notes.now }
-    requires inside { count ≤ length about.told.now }
-    requires faults { (faults : List AFault) × (about.told.now ≡ map No faults) }
-    ensures { IfOk result (λ texts. AreStoriesOf about.entry.folder.now scene.now.evidence.now scene.now.logs.now about.entry.told.now (take count about.entry.told.now) (map string_bytes texts.items)) }
+    requires faults { (faults : List AFault) × (told.now ≡ map No faults) }
+    ensures { IfOk result (λ texts. (all : List Named) → about.entry.counts.now ≡ counts_line all
+        → AreStoriesOf about.entry.folder.now scene.now.evidence.now scene.now.logs.now all told.now (map string_bytes texts.items)) }
 {
     let mut texts = Vec::new(scene.alloc);
-    for i in 0..count {
-        let text = story_at(scene, about, i)?;
+    for i in 0..told.len() {
+        let text = story_of(scene, about, &told[i])?;
         texts.push(text)?;
     }
     Ok(texts)
 }
 
-/// The stories of the first faults of an evidence with these logs.
-fn of_logs(
-    alloc: Global,
-    evidence: &Evidence,
-    whole: Whole<'_>,
-    first: &First<'_>,
+/// The stories of the faults that are held of those that were found.
+fn of_findings(
+    scene: &Scene<'_>,
+    folder: &str,
+    found: &Findings,
+    most: u64,
 ) -> Result<Vec<String>, AllocError>
-    requires logs { AreWholeLogs evidence.now.partitions whole.logs.now }
-    requires epochs { HaveEpochs evidence.now.partitions whole.epochs.now }
-    ensures { IfOk result (λ texts. AreFirstStories first.now.folder.now evidence.now first.now.most (map string_bytes texts.items)) }
+    requires seen { AreItsSeen scene.now.evidence.now scene.now.logs.now }
+    requires found { AreFindings scene.now.evidence.now 0 most found.now }
+    ensures { IfOk result (λ texts. AreFirstStories folder.now scene.now.evidence.now most (map string_bytes texts.items)) }
 {
-    let faults = all_faults(alloc, evidence, whole.logs)?;
-    let told = verdicts_of(alloc, faults)?;
-    let found = noted(alloc, evidence, whole)?;
-    let scene = Scene {
-        alloc,
-        evidence,
-        logs: whole.logs.parts.as_slice(),
-    };
     let about = About {
-        folder: first.folder,
-        told: told.as_slice(),
-        notes: found.as_slice(),
+        folder,
+        counts: found.line.as_str(),
+        notes: found.notes.as_slice(),
     };
-    let count = count_of(about.told, first.most);
-    let texts = told_each(&scene, about, count)?;
+    let texts = told_each(scene, about, found.told.as_slice())?;
     Ok(texts)
 }
 
@@ -107,13 +94,19 @@ pub fn first_stories_of<G: Gate>(
 ) -> Result<Vec<String>, AllocError>
     ensures { IfOk result (λ texts. AreFirstStories first.now.folder.now evidence.now first.now.most (map string_bytes texts.items)) }
 {
-    let epochs = epochs_of(alloc, rt, evidence, first.workers)?;
-    let logs = logs_of(alloc, rt, evidence, first.workers, gate)?;
-    let whole = Whole {
-        logs: &logs,
-        epochs: epochs.as_slice(),
+    let judged = judge_evidence(alloc, rt, evidence, first.workers)?;
+    let pick = Pick {
+        from: 0,
+        most: first.most as u64,
     };
-    of_logs(alloc, evidence, whole, first)
+    let found = found_in(alloc, evidence, &judged, pick)?;
+    let whole = whole_logs(alloc, rt, evidence, first.workers, gate)?;
+    let scene = Scene {
+        alloc,
+        evidence,
+        logs: seen_of(evidence, &judged, whole.as_ref()),
+    };
+    of_findings(&scene, first.folder, &found, pick.most)
 }
 
 /// The stories of the first faults of the evidence in a folder of a disk. It is read whole, once, by at most so many threads; a yes has

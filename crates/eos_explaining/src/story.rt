@@ -1,12 +1,12 @@
 //! The story of one of all faults.
 
-ghost use Rattle.std.specs.Prelude.{◌≡◌, ◌<◌, length, map, List, IfOk, Some, slice_get, string_bytes};
+ghost use Rattle.std.specs.Prelude.{◌≡◌, List, IfOk, string_bytes};
 ghost use Rattle.std.specs.Option.{option_copied};
 ghost use Rattle.eos_text.specs.Catalogue.{IsPageOf};
+ghost use Rattle.eos_verdict.specs.Counts.{counts_line};
 ghost use Rattle.eos_verdict.specs.declared.verdict.Fault.{Fault as AFault};
 ghost use Rattle.eos_verdict.specs.declared.verdict.Verdict.{Verdict as Named};
 ghost use Rattle.eos_verdict.specs.declared.verdict.Verdict.TheVariants.{No};
-ghost use Rattle.eos_commits.specs.EvidenceLogs.{AreLogsOf};
 ghost use Rattle.eos_notes.specs.Notes.{AreAllNotes};
 ghost use Rattle.eos_explaining.specs.Explaining.{IsStoryOf, code_of};
 
@@ -27,25 +27,25 @@ fn page_for(alloc: Global, fault: &Fault) -> Result<Option<&'static Page>, Alloc
     Ok(page_of(code.as_str()))
 }
 
-/// What a story tells beside its fault: the folder's path, all faults as verdicts name them, and the notes.
+/// What a story tells beside its fault: the folder's path, the line of how many faults there are of each kind, and the notes.
 #[derive(Clone, Copy)]
 pub(crate) struct About<'a> {
     pub folder: &'a str,
-    pub told: &'a [Verdict],
+    pub counts: &'a str,
     pub notes: &'a [Note],
 }
 
-/// The story of the fault that this verdict names, which is one of these.
+/// The story of the fault that this verdict names.
 fn told_of(
     scene: &Scene<'_>,
     about: About<'_>,
     verdict: &Verdict,
     fault: &Fault,
 ) -> Result<String, AllocError>
-    requires logs { AreLogsOf scene.now.evidence.now.partitions scene.now.logs.now }
     requires notes { AreAllNotes scene.now.evidence.now about.notes.now }
     requires names { verdict.now ≡ No fault.now }
-    ensures { IfOk result (λ text. IsStoryOf about.entry.folder.now scene.now.evidence.now scene.now.logs.now about.entry.told.now verdict.now (string_bytes text)) }
+    ensures { IfOk result (λ text. (told : List Named) → about.entry.counts.now ≡ counts_line told
+        → IsStoryOf about.entry.folder.now scene.now.evidence.now scene.now.logs.now told verdict.now (string_bytes text)) }
 {
     let rows = rows_of(scene, fault)?;
     let place = place_of(scene.alloc, fault)?;
@@ -57,25 +57,26 @@ fn told_of(
         rows: rows.as_slice(),
         partitions: scene.evidence.partitions(),
         page,
-        told: about.told,
+        counts: about.counts,
         notes: about.notes,
     };
     story_text(scene.alloc, &story)
 }
 
-/// The story of the fault at this place of the list of all.
+/// The story of the fault that this verdict names.
 ///
 /// # Errors
 /// Only want of memory.
-pub(crate) fn story_at(scene: &Scene<'_>, about: About<'_>, i: usize) -> Result<String, AllocError>
-    requires logs { AreLogsOf scene.now.evidence.now.partitions scene.now.logs.now }
+pub(crate) fn story_of(
+    scene: &Scene<'_>,
+    about: About<'_>,
+    verdict: &Verdict,
+) -> Result<String, AllocError>
     requires notes { AreAllNotes scene.now.evidence.now about.notes.now }
-    requires inside { i < length about.told.now }
-    requires faults { (faults : List AFault) × (about.told.now ≡ map No faults) }
-    ensures { IfOk result (λ text. (verdict : Named) × (slice_get about.entry.told.now i ≡ Some verdict) × IsStoryOf about.entry.folder.now scene.now.evidence.now scene.now.logs.now about.entry.told.now verdict (string_bytes text)) }
+    requires names { (fault : AFault) × (verdict.now ≡ No fault) }
+    ensures { IfOk result (λ text. (told : List Named) → about.entry.counts.now ≡ counts_line told
+        → IsStoryOf about.entry.folder.now scene.now.evidence.now scene.now.logs.now told verdict.now (string_bytes text)) }
 {
-    let told = about.told;
-    let verdict = &told[i];
     match verdict {
         Verdict::Yes(_) => unreachable!(),
         Verdict::No(fault) => told_of(scene, about, verdict, fault),

@@ -19,7 +19,7 @@ use eos_evidence::Partition;
 use eos_notes::{Note, note_lines};
 use eos_story::{Row, Told};
 use eos_text::{Page, push_text};
-use eos_verdict::{push_counts, verdict_line};
+use eos_verdict::verdict_line;
 use std::alloc::{AllocError, Global};
 
 /// How many lines of rows there are at most, and of notes.
@@ -42,8 +42,8 @@ pub struct Story<'a> {
     pub partitions: &'a [Partition],
     /// The catalogue's page of its kind.
     pub page: Option<&'a Page>,
-    /// All faults, each as a verdict names it.
-    pub told: &'a [Verdict],
+    /// The line of how many faults there are of each kind.
+    pub counts: &'a str,
     /// The notes on the evidence.
     pub notes: &'a [Note],
 }
@@ -136,7 +136,7 @@ pub fn story_text(alloc: Global, story: &Story<'_>) -> Result<String, AllocError
     let mut text = verdict_line(alloc, story.verdict)?;
     push_rows(alloc, &mut text, story)?;
     push_page(alloc, &mut text, story.place, story.rows, story.page)?;
-    push_counts(&mut text, story.told)?;
+    push_text(&mut text, story.counts)?;
     push_notes(alloc, &mut text, story.notes)?;
     push_next(alloc, &mut text, story)?;
     Ok(text)

@@ -1,6 +1,7 @@
 pub mod KeptTold
 mod SameShape
 pub mod VerdictKept
+mod JudgedInMemory
 pub mod FirstOfAll
 pub mod PhaseLists
 pub mod LaterAlike

@@ -1,10 +1,9 @@
 //! All faults of an evidence: the list of the first phase that has one.
 
 ghost use Rattle.std.specs.Prelude.{◌≡◌, IfOk, map};
-ghost use Rattle.eos_commits.specs.EvidenceLogs.{AreLogsOf};
 ghost use Rattle.eos_verdict.specs.declared.verdict.Fault.TheVariants.{Partition as InPartition};
-ghost use Rattle.eos_kept.specs.Faults.{AreFaultsIn};
 ghost use Rattle.eos_source_check.specs.AllFaults.{AreAllFaults};
+ghost use Rattle.eos_source_check.specs.Judged.{AreKeptOf};
 
 use crate::later::later_faults;
 use crate::partitions::all_partition_faults;
@@ -28,7 +27,7 @@ pub fn of_partitions(alloc: Global, faults: Vec<PartitionFault>) -> Result<Vec<F
     Ok(list)
 }
 
-/// Every fault of the evidence whose logs these are, in the verdict's order, each once; but of the outputs that one input lacks,
+/// Every fault of an evidence of whose logs these are kept, in the verdict's order, each once; but of the outputs that one input lacks,
 /// which may be very many, the first alone. Since a fault of a phase counts only where none of the phases before stands, they are
 /// of one phase. None where the verdict is yes; else the first is the verdict's (`laws::first_fault`).
 ///
@@ -38,8 +37,7 @@ pub fn of_partitions(alloc: Global, faults: Vec<PartitionFault>) -> Result<Vec<F
 /// # Errors
 /// Only want of memory.
 pub fn all_faults(alloc: Global, evidence: &Evidence, logs: &Logs) -> Result<Vec<Fault>, AllocError>
-    ensures { (of : AreLogsOf evidence.now.partitions logs.now.parts.items) → AreFaultsIn evidence.now.partitions logs.now.faults.items
-        → IfOk result (λ faults. AreAllFaults evidence.now logs.now.parts.items of faults.items) }
+    ensures { (kept : AreKeptOf evidence.now logs.now) → IfOk result (λ faults. AreAllFaults evidence.now kept.whole kept.of faults.items) }
 {
     let spec = evidence.spec();
     if let Some(_fault) = logs.first_fault() {

@@ -12,6 +12,7 @@
 
 mod again;
 mod all;
+mod evidence;
 mod fault;
 mod judged;
 mod kept;
@@ -26,6 +27,7 @@ mod rising;
 mod times;
 
 pub use all::{all_faults, of_partitions};
+pub use evidence::judge_evidence;
 pub use fault::Unlisted;
 pub use judged::{Judged, judge_source};
 pub use later::later_faults;

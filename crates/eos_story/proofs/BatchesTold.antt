@@ -4,14 +4,14 @@ use Rattle.std.specs.List.{All}
 use Rattle.std.proofs.lemmas.List.{map-append, take_min, take_all}
 use Rattle.eos_base.specs.declared.partition_name.PartitionName.{PartitionName}
 use Rattle.eos_base.specs.Members.{Has}
+use Rattle.eos_batch.specs.declared.record.Header.{Header}
 use Rattle.eos_evidence.specs.declared.partition.Partition.{Partition as Log}
 use Rattle.eos_sought.specs.declared.partition.Placed.{Placed}
 use Rattle.eos_sought.specs.declared.wanted.Wanted.{Wanted}
 use Rattle.eos_sought.specs.Partitions.{AreBatchesOf}
 use Rattle.eos_claims.specs.declared.place.Place.{Place}
-use Rattle.eos_sought.specs.declared.finding.Find.{Find}
 use Rattle.eos_story.specs.declared.headers.HeaderName.TheVariants.{Topic, Partition as Number, Offset, Output, Of as OfHeader}
-use Rattle.eos_story.specs.Answers.{StandInOrder, IsBatchRow, IsFirstShown, around, IsHeaderRow, header_names, AreHeadersShown}
+use Rattle.eos_story.specs.Answers.{StandInOrder, IsBatchRow, IsFirstShown, around, IsHeaderRow, header_names}
 use Rattle.eos_story.specs.declared.batches.Found.{Found}
 use Rattle.eos_story.specs.declared.row.Row.{Row}
 use Rattle.eos_story.specs.declared.row.Row.TheVariants as rows
@@ -118,10 +118,10 @@ pub all_around : {X : Type 0} (n m : ℕ) (xs shown : List X) → shown ≡ drop
 all_around {X} n m xs shown e = subst (All (Has xs)) (sym e) (all_dropped n xs (take m xs) (all_taken m xs))
 
 -- the names of the headers, one after the other
-pub headers_told : {scene : Scene} {a b c d e f : List Row} (r1 r2 r3 r4 r5 : Row) (place : Place) (find : Find) → Tells scene a b (IsNext a r1) → Tells scene b c (IsNext b r2) → Tells scene c d (IsNext c r3) → Tells scene d e (IsNext d r4) → Tells scene e f (IsNext e r5)
-    → IsHeaderRow place find Topic r1 → IsHeaderRow place find Number r2 → IsHeaderRow place find Offset r3 → IsHeaderRow place find Output r4 → IsHeaderRow place find OfHeader r5 → Tells scene a f (AreHeadersShown place (Some find))
-headers_told {scene} {a} {b} {c} {d} {e} {f} r1 r2 r3 r4 r5 place find h1 h2 h3 h4 h5 i1 i2 i3 i4 i5 =
-    let R = IsHeaderRow place find in
+pub headers_told : {scene : Scene} {a b c d e f : List Row} (r1 r2 r3 r4 r5 : Row) (place : Place) (headers : List Header) → Tells scene a b (IsNext a r1) → Tells scene b c (IsNext b r2) → Tells scene c d (IsNext c r3) → Tells scene d e (IsNext d r4) → Tells scene e f (IsNext e r5)
+    → IsHeaderRow place headers Topic r1 → IsHeaderRow place headers Number r2 → IsHeaderRow place headers Offset r3 → IsHeaderRow place headers Output r4 → IsHeaderRow place headers OfHeader r5 → Tells scene a f (StandInOrder (IsHeaderRow place headers) header_names)
+headers_told {scene} {a} {b} {c} {d} {e} {f} r1 r2 r3 r4 r5 place headers h1 h2 h3 h4 h5 i1 i2 i3 i4 i5 =
+    let R = IsHeaderRow place headers in
     let s0 = told_nothing scene a (StandInOrder R []) tt in
     let s1 = order_more R [] Topic (Topic ∷ []) r1 [] s0 h1.are h1.told i1 refl in
     let s2 = order_more R (Topic ∷ []) Number (Topic ∷ (Number ∷ [])) r2 [] s1 h2.are h2.told i2 refl in

@@ -68,9 +68,9 @@ pub ends_more : (logs : List PartLog) (finds : List Find) (f : Find) (told : Lis
 ends_more logs [] f told h is = (is, tt)
 ends_more logs (g ∷ gs) f told h is = (h.0, ends_more logs gs f told h.1 is)
 
-headers_grown : (place : Place) (find : Option Find) (told added : List Row) → AreHeadersShown place find told → AreHeadersShown place find (told ++ added)
-headers_grown place None told added h = tt
-headers_grown place (Some f) told added h = in_order_grown (IsHeaderRow place f) header_names told added h
+headers_grown : (ps : List Log) (place : Place) (find : Option Find) (told added : List Row) → AreHeadersShown ps place find told → AreHeadersShown ps place find (told ++ added)
+headers_grown ps place None told added h = tt
+headers_grown ps place (Some f) told added h = record { headers = h.headers; of = h.of; in_order = in_order_grown (IsHeaderRow place h.headers) header_names told added h.in_order }
 
 -- ---- batches
 
@@ -112,7 +112,7 @@ pub answers_grown : (ps : List Log) (logs : List PartLog) (told added : List Row
 answers_grown ps logs told added (Records sought most) h = shown_grown _ _ _ _ told added h
 answers_grown ps logs told added (Latest sought most) h = shown_grown _ _ _ _ told added h
 answers_grown ps logs told added (Claims sought most) h = (shown_grown _ _ _ _ told added h.0, ends_grown logs _ told added h.1)
-answers_grown ps logs told added (Headers place) h = headers_grown place _ told added h
+answers_grown ps logs told added (Headers place) h = headers_grown ps place _ told added h
 answers_grown ps logs told added (FirstBatch name wanted) h = first_grown name wanted told added h
 answers_grown ps logs told added (Batches name wanted most) h = batches_grown ps name wanted most told added h
 answers_grown ps logs told added (Listed sought shown all) h = has_grown told added _ h

@@ -2,6 +2,7 @@
 use Rattle.std.specs.Prelude.{◌≡◌, ◌≢◌, ◌<◌, ⊤, ℕ, ◌+◌, ◌-◌, ℤ, List, [], ◌∷◌, ◌++◌, length, take, drop, count_by, nat_le, nat_lt, Option, Some, None, slice_get}
 use Rattle.eos_base.specs.declared.partition_name.PartitionName.{PartitionName}
 use Rattle.eos_base.specs.Members.{Has}
+use Rattle.eos_batch.specs.declared.record.Header.{Header}
 use Rattle.eos_claims.specs.declared.place.Place.{Place}
 use Rattle.eos_claims.specs.Headers.{values_of}
 use Rattle.eos_evidence.specs.declared.partition.Partition.{Partition}
@@ -21,6 +22,7 @@ use Rattle.eos_story.specs.declared.headers.HeaderName.TheVariants.{Topic, Parti
 use Rattle.eos_story.specs.declared.row.Row.{Row}
 use Rattle.eos_story.specs.declared.row.Row.TheVariants as rows
 use Rattle.eos_story.specs.HeaderNames.{key_of}
+use Rattle.eos_story.specs.Rows.{AreHeadersOf}
 use Rattle.eos_story.specs.Questions.{Question, Records, Latest, Claims, Headers, FirstBatch, Batches, Listed, Around, Ends}
 
 -- each of these has a row of its own, behind the row of the one before
@@ -98,15 +100,20 @@ AreEndsShown logs (find ∷ finds) told = IsEndShown logs find.partition find.it
 
 -- ---- headers
 
-abbrev pub IsHeaderRow : Place → Find → HeaderName → Row → Type 0
-IsHeaderRow place find name row = row ≡ rows.Header place name (values_of (key_of name) find.item.headers)
+abbrev pub IsHeaderRow : Place → List Header → HeaderName → Row → Type 0
+IsHeaderRow place headers name row = row ≡ rows.Header place name (values_of (key_of name) headers)
 
 abbrev pub header_names : List HeaderName
 header_names = Topic ∷ (Number ∷ (Offset ∷ (Output ∷ (Of ∷ []))))
 
-abbrev pub AreHeadersShown : Place → Option Find → List Row → Type 0
-AreHeadersShown place None told = ⊤
-AreHeadersShown place (Some find) told = StandInOrder (IsHeaderRow place find) header_names told
+pub record AreHeadersTold (partitions : List Partition) (place : Place) (told : List Row) : Type 0 where
+  pub headers : List Header
+  pub of : AreHeadersOf partitions place headers
+  pub in_order : StandInOrder (IsHeaderRow place headers) header_names told
+
+abbrev pub AreHeadersShown : List Partition → Place → Option Find → List Row → Type 0
+AreHeadersShown ps place None told = ⊤
+AreHeadersShown ps place (Some find) told = AreHeadersTold ps place told
 
 -- ---- the end of a partition
 
@@ -139,7 +146,7 @@ abbrev pub Answers : List Partition → List PartLog → List Row → Question �
 Answers ps logs told (Records sought most) = AreFirstShown logs sought most told
 Answers ps logs told (Latest sought most) = AreLastShown logs sought most told
 Answers ps logs told (Claims sought most) = AreFirstShown logs sought most told × AreEndsShown logs (take most (all_of sought logs)) told
-Answers ps logs told (Headers place) = AreHeadersShown place (slice_get (all_of (At place) logs) 0) told
+Answers ps logs told (Headers place) = AreHeadersShown ps place (slice_get (all_of (At place) logs) 0) told
 Answers ps logs told (FirstBatch name wanted) = IsFirstShown name wanted told
 Answers ps logs told (Batches name wanted most) = AreBatchesShown ps name wanted most told
 Answers ps logs told (Listed sought shown all) = Has told (rows.MorePartitions shown all sought)

@@ -1,5 +1,6 @@
 pub mod Answers
 pub mod HeaderNames
+pub mod HeaderBytes
 pub mod Listings
 pub mod PlaceOfFault
 pub mod Questions

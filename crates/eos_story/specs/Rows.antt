@@ -2,6 +2,8 @@
 use Rattle.std.specs.Prelude.{◌≡◌, ℕ, ℤ, List, Option, Some, None, All, length, slice_get}
 use Rattle.eos_base.specs.declared.partition_name.PartitionName.{PartitionName}
 use Rattle.eos_base.specs.Members.{Has}
+use Rattle.eos_batch.specs.declared.record.Header.{Header}
+use Rattle.eos_claims.specs.declared.place.Place.{Place}
 use Rattle.eos_claims.specs.Headers.{values_of}
 use Rattle.eos_evidence.specs.declared.partition.Partition.{Partition}
 use Rattle.eos_evidence.specs.declared.segment.Segment.{Segment}
@@ -13,11 +15,12 @@ use Rattle.eos_sought.specs.declared.wanted.Wanted.TheVariants.{Holding}
 use Rattle.eos_sought.specs.Partitions.{partition_named, AreBatchesOf}
 use Rattle.eos_sought.specs.declared.finding.Find.{Find}
 use Rattle.eos_sought.specs.declared.sought.Sought.{Sought}
-use Rattle.eos_sought.specs.declared.sought.Sought.TheVariants.{At}
 use Rattle.eos_sought.specs.Finds.{all_of}
 use Rattle.eos_story.specs.declared.row.Row.{Row}
 use Rattle.eos_story.specs.declared.row.Row.TheVariants as rows
 use Rattle.eos_story.specs.declared.scene.Scene.{Scene}
+use Rattle.eos_story.specs.declared.headers.HeaderName.{HeaderName}
+use Rattle.eos_story.specs.HeaderBytes.{headers_at}
 use Rattle.eos_story.specs.HeaderNames.{key_of}
 use Rattle.eos_story.specs.Listings.{listed_by}
 
@@ -71,6 +74,18 @@ pub record IsRecordAt (partitions : List Partition) (logs : List PartLog) (find 
   pub has : Has all find
   pub holds : IsFirst partitions find.partition (Holding find.item.offset) spot
 
+-- the headers of the record of a place, by the bytes of the first batch that holds it
+pub record AreHeadersOf (partitions : List Partition) (place : Place) (headers : List Header) : Type 0 where
+  pub spot : Option Placed
+  pub holds : IsFirst partitions place.partition (Holding place.offset) spot
+  pub are : headers ≡ headers_at partitions place.partition place.offset spot
+
+-- these values stand under a name in the headers of the record of a place
+pub record StandUnder (partitions : List Partition) (place : Place) (name : HeaderName) (values : List (Option (List ℕ))) : Type 0 where
+  pub headers : List Header
+  pub of : AreHeadersOf partitions place headers
+  pub are : values ≡ values_of (key_of name) headers
+
 abbrev pub IsTrue : List Partition → List PartLog → Row → Type 0
 IsTrue ps logs (rows.Record sought find spot) = IsRecordAt ps logs find spot (all_of sought logs)
 IsTrue ps logs (rows.NoRecord sought) = length (all_of sought logs) ≡ 0
@@ -82,7 +97,7 @@ IsTrue ps logs (rows.MorePartitions shown all sought) = AreListed logs sought al
 IsTrue ps logs (rows.Segment name base size) = IsSegmentOf ps name base size
 IsTrue ps logs (rows.MoreSegments name shown all) = AreSegmentsOf ps name all
 IsTrue ps logs (rows.End name end) = IsEndOf ps name end
-IsTrue ps logs (rows.Header place name values) = (find : Find) × Has (all_of (At place) logs) find × (values ≡ values_of (key_of name) find.item.headers)
+IsTrue ps logs (rows.Header place name values) = StandUnder ps place name values
 
 -- each row says what is so
 abbrev pub AreTrue : Scene → List Row → Type 0

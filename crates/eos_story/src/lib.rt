@@ -4,6 +4,7 @@
 //! story is made elsewhere.
 #![tactic(auto)]
 
+mod batch;
 mod batches;
 mod beside;
 mod claims;

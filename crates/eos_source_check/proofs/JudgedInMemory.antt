@@ -1,5 +1,5 @@
--- Where the leader epochs of an evidence change, which is read from memory: it is of its own shape, and each piece says its bytes.
-use Rattle.std.proofs.Common.{◌≡◌, ◌<◌, ◌+◌, ℕ, zero, suc, true, List, [], ◌∷◌, length, map, Option, None, Some, refl, sym, ap, subst, ◌∙◌, arith, slice_get, length-append}
+-- An evidence in memory is of its own shape, and each piece says its bytes: so what is judged of it as of a source is judged of itself.
+use Rattle.std.proofs.Common.{◌≡◌, ◌<◌, ◌+◌, ℕ, zero, suc, true, List, [], ◌∷◌, length, Option, None, Some, refl, sym, ap, subst, ◌∙◌, arith, slice_get, length-append}
 use Rattle.std.specs.Prelude.{option_map}
 use Rattle.std.specs.List.{AllByRecursion}
 use Rattle.eos_evidence.specs.declared.ends.End.{End}
@@ -7,13 +7,11 @@ use Rattle.eos_evidence.specs.declared.partition.Partition.{Partition}
 use Rattle.eos_evidence.specs.declared.segment.Segment.{Segment}
 use Rattle.eos_evidence.specs.Evidence.{EvidenceParts, IsEvidence, IsPartition, IsOwn, segments_of}
 use Rattle.eos_fold.proofs.ListPlaces.{get_left, get_right}
-use Rattle.eos_kept.specs.Parts.{HaveEpochs}
-use Rattle.eos_source.specs.declared.logs.KeptLogs.{KeptLogs}
-use Rattle.eos_source.specs.Logs.{AreLogsKept, AreKeptLogs}
 use Rattle.eos_source.specs.Said.{Said, Log, HasSaid, known_by}
 use Rattle.eos_source.specs.Shapes.{IsPiece, ArePieces, ArePartitions}
 use Rattle.eos_source.proofs.SameShape.{holds_of_known}
-use Rattle.eos_source_check.proofs.KeptTold.{AreKept, kept_told}
+use Rattle.eos_source_check.specs.Judged.{IsJudgedFor, IsJudgedOf}
+use Rattle.eos_source_check.specs.declared.judged.Judged.{Judged}
 
 -- a piece that isn't there says nothing
 abbrev say : Option Segment → Said
@@ -48,13 +46,10 @@ own_partitions said piece (p ∷ ps) each h =
           ap said next ∙ (h (length p.segments + k) (omega (arith, lt, count)) ∙ ap say (get_right p.segments (segments_of ps) k))),
     )
 
-pub epochs_are : (e : EvidenceParts) (logs : KeptLogs) → IsEvidence e
-    → AreKeptLogs (known_by (λ piece. option_map (λ (s : Segment). Log s.bytes) (slice_get (segments_of e.partitions) piece)) (λ piece. true)) e logs → HaveEpochs e.partitions logs.epochs.items
-epochs_are e logs is kept =
+pub judged_itself : (e : EvidenceParts) (judged : Judged) → IsEvidence e
+    → IsJudgedOf (known_by (λ piece. option_map (λ (s : Segment). Log s.bytes) (slice_get (segments_of e.partitions) piece)) (λ piece. true)) e judged → IsJudgedFor judged e
+judged_itself e judged is h =
     let ss = segments_of e.partitions in
     let said : ℕ → Said = λ piece. say (slice_get ss piece) in
     let of = own_partitions said 0 e.partitions is.each (λ k lt. let same : 0 + k ≡ k = omega arith in ap said same) in
-    let k : AreLogsKept logs e =
-    holds_of_known (λ piece. option_map (λ (s : Segment). Log s.bytes) (slice_get ss piece)) (λ piece. true) said e e (AreLogsKept logs) (λ piece lt. says_so ss piece lt) (record { spec = refl; partitions = of }) kept in
-    let t : AreKept e.spec.apps e.partitions k.told = kept_told e.spec.apps e.partitions k.told k.each in
-    subst (HaveEpochs e.partitions) (sym k.columns.epochs) t.epochs
+    holds_of_known (λ piece. option_map (λ (s : Segment). Log s.bytes) (slice_get ss piece)) (λ piece. true) said e e (IsJudgedFor judged) (λ piece lt. says_so ss piece lt) (record { spec = refl; partitions = of }) h

@@ -1,0 +1,37 @@
+-- Items of a list, so many from a place on, as they are passed one after the other.
+use Rattle.std.proofs.Common.{◌≡◌, ◌<◌, ◌≤◌, ◌+◌, ◌-◌, ℕ, zero, suc, List, [], ◌∷◌, ◌++◌, length, take, drop, map, Option, Some, None, refl, sym, ap, ◌∙◌, arith, slice_get}
+use Rattle.std.proofs.lemmas.List.{length-drop}
+use Rattle.eos_sought.proofs.Keeping.{take_kept, take_full}
+
+drop_more : {X : Type 0} (k : ℕ) (xs : List X) (x : X) → k ≤ length xs → drop k (xs ++ x ∷ []) ≡ drop k xs ++ x ∷ []
+drop_more zero xs x le = refl
+drop_more (suc k) [] x le = absurd (omega (arith, le))
+drop_more (suc k) (y ∷ ys) x le = drop_more k ys x (omega (arith, le))
+
+drop_all : {X : Type 0} (k : ℕ) (xs : List X) (x : X) → length xs < k → drop k (xs ++ x ∷ []) ≡ drop k xs
+drop_all zero xs x lt = absurd (omega (arith, lt))
+drop_all (suc zero) [] x lt = refl
+drop_all (suc (suc k)) [] x lt = refl
+drop_all (suc k) (y ∷ ys) x lt = drop_all k ys x (omega (arith, lt))
+
+module _ {X : Type 0} (from most : ℕ) (xs : List X) (x : X) where
+  pub pick_more : from ≤ length xs → length xs - from < most → take most (drop from (xs ++ x ∷ [])) ≡ take most (drop from xs) ++ x ∷ []
+  pick_more le lt = ap (take most) (drop_more from xs x le) ∙ take_kept most (drop from xs) x (omega (arith, length-drop from xs, lt))
+
+  pub pick_early : length xs < from → take most (drop from (xs ++ x ∷ [])) ≡ take most (drop from xs)
+  pick_early lt = ap (take most) (drop_all from xs x lt)
+
+  pub pick_full : from ≤ length xs → most ≤ length xs - from → take most (drop from (xs ++ x ∷ [])) ≡ take most (drop from xs)
+  pick_full le full = ap (take most) (drop_more from xs x le) ∙ take_full most (drop from xs) x (omega (arith, length-drop from xs, full))
+
+pub picked_first : {X : Type 0} (k : ℕ) (xs : List X) → slice_get (take 1 (drop k xs)) 0 ≡ slice_get xs k
+picked_first zero [] = refl
+picked_first zero (x ∷ xs) = refl
+picked_first (suc k) [] = refl
+picked_first (suc k) (x ∷ xs) = picked_first k xs
+
+pub picked_one : {X : Type 0} (k : ℕ) (xs : List X) → k < length xs → length (take 1 (drop k xs)) ≡ 1
+picked_one zero [] lt = absurd (omega (arith, lt))
+picked_one zero (x ∷ xs) lt = refl
+picked_one (suc k) [] lt = absurd (omega (arith, lt))
+picked_one (suc k) (x ∷ xs) lt = picked_one k xs (omega (arith, lt))

@@ -1,0 +1,34 @@
+-- What has been counted of these faults, each as a verdict names it, and which of them are held.
+use Rattle.std.specs.Prelude.{◌≡◌, ℕ, List, Option, Some, None, length, filter, take, drop}
+use Rattle.std.specs.BTreeMap.{get}
+use Rattle.std.specs.Ordering.{nat_cmp}
+use Rattle.eos_verdict.specs.Counts.{has_number, first_with}
+use Rattle.eos_verdict.specs.VerdictNames.{phase_of, number_of, name_of}
+use Rattle.eos_verdict.specs.declared.verdict.Fault.{Fault}
+use Rattle.eos_verdict.specs.declared.verdict.Verdict.{Verdict}
+use Rattle.eos_verdict.specs.declared.verdict.Verdict.TheVariants.{No}
+use Rattle.eos_explaining.specs.declared.kinds.KindCount.{KindCount}
+use Rattle.eos_explaining.specs.declared.kinds.KindCounts.{KindCounts}
+use Rattle.eos_explaining.specs.declared.kinds.Picked.{Picked}
+
+-- so many have this number, and the first of them has this phase and this name
+pub record IsKind (told : List Verdict) (n : ℕ) (k : KindCount) : Type 0 where
+  pub first : Fault
+  pub stands : first_with n told ≡ Some (No first)
+  pub number : number_of first ≡ n
+  pub counted : k.count ≡ length (filter (has_number n) told)
+  pub phase : k.phase ≡ phase_of first
+  pub name : k.name.now ≡ name_of first
+
+abbrev pub HasKind : List Verdict → ℕ → Option KindCount → Type 0
+HasKind told n None = (first_with n told ≡ None) × (length (filter (has_number n) told) ≡ 0)
+HasKind told n (Some k) = IsKind told n k
+
+pub record AreKinds (told : List Verdict) (counts : KindCounts) : Type 0 where
+  pub all : counts.all ≡ length told
+  pub each : (n : ℕ) → HasKind told n (get nat_cmp counts.kinds n)
+
+-- so many from this place on are held
+pub record IsPicked (told : List Verdict) (from most : ℕ) (p : Picked) : Type 0 where
+  pub counts : AreKinds told p.counts
+  pub held : p.told.items ≡ take most (drop from told)

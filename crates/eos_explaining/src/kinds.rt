@@ -1,0 +1,186 @@
+//! How many faults of each kind there are: they are counted one after the other, and only those that are asked for are held.
+
+ghost use Rattle.std.specs.Prelude.{◌≡◌, ◌++◌, ◌∷◌, [], ℕ, List, Some, map, flat_map, cond, IfOk, OnOk, string_bytes};
+ghost use Rattle.std.specs.BTreeMap.{get};
+ghost use Rattle.std.specs.Ordering.{nat_cmp, is_eq};
+ghost use Rattle.eos_text.specs.Adding.{Adds};
+ghost use Rattle.eos_verdict.specs.Counts.{counts_line};
+ghost use Rattle.eos_verdict.specs.VerdictNames.{number_of};
+ghost use Rattle.eos_verdict.specs.declared.verdict.Verdict.{Verdict as Named};
+ghost use Rattle.eos_verdict.specs.declared.verdict.Verdict.TheVariants.{No};
+ghost use Rattle.eos_explaining.specs.steps.Kinds.{kind_line, kind_at, counts_text};
+ghost use Rattle.eos_explaining.specs.steps.Counting.{HasKind, AreKinds, IsPicked};
+
+use eos_check::{Fault, Verdict};
+use eos_text::{push_text, push_value};
+use std::alloc::{AllocError, Global};
+use std::collections::BTreeMap;
+
+/// How many faults of a kind there are, its phase and its name.
+#[derive(Clone, Copy)]
+pub(crate) struct KindCount {
+    pub(crate) count: u64,
+    pub(crate) phase: u8,
+    pub(crate) name: &'static str,
+}
+
+/// How many faults there are, and how many of each kind, by the kind's number.
+#[derive(Drop)]
+pub(crate) struct KindCounts {
+    pub(crate) all: u64,
+    pub(crate) kinds: BTreeMap<u8, KindCount>,
+}
+
+/// Which faults of a list are held: so many from this place on, which is counted from 0.
+#[derive(Clone, Copy)]
+pub(crate) struct Pick {
+    pub(crate) from: u64,
+    pub(crate) most: u64,
+}
+
+/// All faults of a list, counted, and those that are held.
+#[derive(Drop)]
+pub(crate) struct Picked {
+    pub(crate) counts: KindCounts,
+    pub(crate) told: Vec<Verdict>,
+}
+
+// ---- counting
+
+fn counted_in(kinds: &BTreeMap<u8, KindCount>, number: u8) -> Option<KindCount>
+    ensures { result ≡ get nat_cmp kinds.now number }
+{
+    kinds.get(&number).copied()
+}
+
+fn put_count(
+    kinds: &mut BTreeMap<u8, KindCount>,
+    number: u8,
+    count: KindCount,
+) -> Result<(), AllocError>
+    ensures { OnOk result ((n : ℕ) → get nat_cmp kinds.new n ≡ cond (is_eq (nat_cmp number n)) (Some count) (get nat_cmp kinds.old n)) }
+{
+    kinds.insert(number, count)?;
+    Ok(())
+}
+
+/// The count of the fault's kind with this fault.
+fn with_one(known: Option<KindCount>, fault: &Fault) -> Result<KindCount, AllocError>
+    ensures { IfOk result (λ count. (told : List Named) → HasKind told (number_of fault.now) known → HasKind (told ++ No fault.now ∷ []) (number_of fault.now) (Some count)) }
+{
+    match known {
+        None => Ok(KindCount {
+            count: 1,
+            phase: fault.phase(),
+            name: fault.name(),
+        }),
+        Some(known) => {
+            let count = known.count.checked_add(1).ok_or(AllocError)?;
+            Ok(KindCount {
+                count,
+                phase: known.phase,
+                name: known.name,
+            })
+        }
+    }
+}
+
+impl KindCounts {
+    /// Of no fault.
+    fn new(alloc: Global) -> KindCounts
+        ensures { AreKinds [] result }
+    {
+        KindCounts {
+            all: 0,
+            kinds: BTreeMap::new(alloc),
+        }
+    }
+
+    /// With one fault more.
+    fn take(&mut self, fault: &Fault) -> Result<(), AllocError>
+        ensures { (told : List Named) → AreKinds told self.old → OnOk result (AreKinds (told ++ No fault.now ∷ []) self.new) }
+    {
+        let number = fault.number();
+        let count = with_one(counted_in(&self.kinds, number), fault)?;
+        put_count(&mut self.kinds, number, count)?;
+        self.all = self.all.checked_add(1).ok_or(AllocError)?;
+        Ok(())
+    }
+}
+
+impl Picked {
+    /// With one fault more of the list.
+    fn take(&mut self, fault: Fault, pick: Pick) -> Result<(), AllocError>
+        ensures { (told : List Named) → IsPicked told pick.from pick.most self.old → OnOk result (IsPicked (told ++ No fault ∷ []) pick.from pick.most self.new) }
+    {
+        let place = self.counts.all;
+        self.counts.take(&fault)?;
+        if place >= pick.from && place - pick.from < pick.most {
+            self.told.push(Verdict::No(fault))?;
+        }
+        Ok(())
+    }
+}
+
+/// Counts these faults, of which those are held that are picked, each as the verdict that names it.
+pub(crate) fn picked_of(alloc: Global, faults: Vec<Fault>, pick: Pick) -> Result<Picked, AllocError>
+    ensures { IfOk result (IsPicked (map No faults.items) pick.from pick.most) }
+{
+    let mut all = Picked {
+        counts: KindCounts::new(alloc),
+        told: Vec::new(alloc),
+    };
+    for fault in faults {
+        all.take(fault, pick)?;
+    }
+    Ok(all)
+}
+
+// ---- their line
+
+fn push_count(out: &mut String, number: u8, kind: &KindCount) -> Result<(), AllocError>
+    ensures { OnOk result (Adds (string_bytes out.old) (string_bytes out.new) (kind_line number (Some kind.now))) }
+{
+    push_value(out, ", ", &kind.count)?;
+    push_value(out, " of ", &kind.phase)?;
+    push_value(out, ".", &number)?;
+    push_value(out, " ", &kind.name)?;
+    Ok(())
+}
+
+fn push_kind(out: &mut String, counts: &KindCounts, number: u8) -> Result<(), AllocError>
+    ensures { OnOk result (Adds (string_bytes out.old) (string_bytes out.new) (kind_at counts.now number)) }
+{
+    match counted_in(&counts.kinds, number) {
+        None => push_text(out, ""),
+        Some(kind) => push_count(out, number, &kind),
+    }
+}
+
+fn push_kinds(out: &mut String, counts: &KindCounts, numbers: &[u8]) -> Result<(), AllocError>
+    ensures { OnOk result (Adds (string_bytes out.old) (string_bytes out.new) (flat_map (kind_at counts.now) numbers.now)) }
+{
+    for number in numbers {
+        push_kind(out, counts, *number)?;
+    }
+    Ok(())
+}
+
+fn push_counts(out: &mut String, counts: &KindCounts) -> Result<(), AllocError>
+    ensures { OnOk result (Adds (string_bytes out.old) (string_bytes out.new) (counts_text counts.now)) }
+{
+    push_value(out, "Faults: ", &counts.all)?;
+    push_text(out, " in all")?;
+    push_kinds(out, counts, &[1u8, 2, 3, 4, 5, 6, 7, 8, 9, 10, 11, 12])?;
+    push_text(out, "\n")?;
+    Ok(())
+}
+
+/// The line of how many faults there are, and of which kinds.
+pub(crate) fn line_of(alloc: Global, counts: &KindCounts) -> Result<String, AllocError>
+    ensures { (told : List Named) → AreKinds told counts.now → IfOk result (λ line. string_bytes line ≡ counts_line told) }
+{
+    let mut line = String::new(alloc);
+    push_counts(&mut line, counts)?;
+    Ok(line)
+}
