@@ -1,4 +1,3 @@
 pub mod Held
-pub mod Fields
 pub mod Texts
 pub mod Frames

@@ -1,11 +1,12 @@
 //! The report of a check, as a text.
 
-ghost use Rattle.std.specs.Prelude.{◌≡◌, [], IfOk, OnOk, string_bytes};
-ghost use Rattle.serde_json.specs.Data.{Data, put as with_member};
+ghost use Rattle.std.specs.Prelude.{◌≡◌, [], IfOk, OnOk, codes, string_bytes};
+ghost use Rattle.serde_json.specs.Data.{Data, array, no_members, object, put as with_member};
 ghost use Rattle.serde_json.specs.View.{view};
 ghost use Rattle.eos_report.specs.steps.Held.{held};
+ghost use Rattle.eos_report.specs.TallyValues.{with_tallies};
 ghost use Rattle.eos_report.specs.steps.Frames.{IsFrame};
-ghost use Rattle.eos_report.specs.Reports.{counts_value, with_verdict, program_value, with_about, report_value, AreSeconds, AreTimes, IsReportText, IsTimedReportText};
+ghost use Rattle.eos_report.specs.Reports.{counts_value, note_items, with_verdict, program_value, with_about, report_value, AreSeconds, AreTimes, IsReportText, IsTimedReportText};
 
 use crate::about::{About, Times};
 use crate::dates::Dates;
@@ -65,30 +66,55 @@ fn frame_of(
 ) -> Result<String, AllocError>
     ensures { IfOk result (λ frame. IsFrame about.entry found.entry.verdict.now found.entry.dates.now found.entry.notes.now found.entry.tallies.now times (string_bytes frame)) }
 {
-    let seconds = value_of_times(alloc, times)?;
-    let value = value_of_report(alloc, about, found, seconds)?;
+    let value = value_of_report(alloc, about, found, times)?;
     let text = value.to_string(alloc)?;
     Ok(text)
 }
 
-#[tactic(auto, unfolding(crate::specs::Reports::report_value))]
 fn value_of_report(
     alloc: Global,
     about: About<'_>,
     found: Findings<'_>,
-    seconds: Value,
+    times: Times,
 ) -> Result<Value, AllocError>
-    ensures { IfOk result (λ value. view value ≡ report_value about.entry found.entry.verdict.now [] found.entry.dates.now found.entry.notes.now found.entry.tallies.now (view seconds)) }
+    ensures { IfOk result (λ value. (seconds : Data) × AreTimes times seconds × (view value ≡ report_value about.entry found.entry.verdict.now [] found.entry.dates.now found.entry.notes.now found.entry.tallies.now seconds)) }
 {
     let mut made = Object::new(alloc);
-    put_about(alloc, &mut made, about)?;
-    put_verdict(alloc, &mut made, found)?;
-    let notes = values_of_notes(alloc, found.notes)?;
-    made.put("notes", Value::Array(notes))?;
-    put_tallies(alloc, &mut made, found.tallies)?;
-    made.put("seconds", seconds)?;
-    made.put("timestamps_read", Value::Bool(found.dates.read))?;
+    put_report(alloc, &mut made, about, found, times)?;
     Ok(made.into_value())
+}
+
+/// Puts all of it into an object that has no members yet.
+fn put_report(
+    alloc: Global,
+    out: &mut Object,
+    about: About<'_>,
+    found: Findings<'_>,
+    times: Times,
+) -> Result<(), AllocError>
+    requires { held out.old ≡ no_members }
+    ensures { OnOk result ((seconds : Data) × AreTimes times seconds × (object (held out.new) ≡ report_value about.entry found.entry.verdict.now [] found.entry.dates.now found.entry.notes.now found.entry.tallies.now seconds)) }
+{
+    put_findings(alloc, out, about, found)?;
+    put_times(alloc, out, times)?;
+    out.put_flag("timestamps_read", found.dates.read)?;
+    Ok(())
+}
+
+/// Puts in what was checked and what was found.
+fn put_findings(
+    alloc: Global,
+    out: &mut Object,
+    about: About<'_>,
+    found: Findings<'_>,
+) -> Result<(), AllocError>
+    ensures { OnOk result (held out.new ≡ with_tallies found.entry.tallies.now (with_member (codes "notes") (array (note_items found.entry.notes.now)) (with_verdict found.entry.verdict.now [] found.entry.dates.now.of_faults (with_about about.entry (held out.old))))) }
+{
+    put_about(alloc, out, about)?;
+    put_verdict(alloc, out, found)?;
+    let notes = values_of_notes(alloc, found.notes)?;
+    out.put("notes", Value::Array(notes))?;
+    put_tallies(alloc, out, found.tallies)
 }
 
 #[tactic(auto, unfolding(crate::specs::Reports::with_about))]
@@ -140,6 +166,14 @@ fn value_of_counts(alloc: Global, counts: Counts) -> Result<Value, AllocError>
     made.put_count("outputs", counts.outputs)?;
     made.put_count("transactions", counts.transactions)?;
     Ok(made.into_value())
+}
+
+fn put_times(alloc: Global, out: &mut Object, times: Times) -> Result<(), AllocError>
+    ensures { OnOk result ((seconds : Data) × AreTimes times seconds × (held out.new ≡ with_member (codes "seconds") seconds (held out.old))) }
+{
+    let seconds = value_of_times(alloc, times)?;
+    out.put("seconds", seconds)?;
+    Ok(())
 }
 
 /// The seconds of each stage.

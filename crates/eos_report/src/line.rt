@@ -1,18 +1,21 @@
 //! The line of a verdict as JSON, and those of all faults: what the text has, and of a fault the fields that a report has of it.
 
-ghost use Rattle.std.specs.Prelude.{◌≡◌, ◌++◌, IfOk, OnOk, string_bytes};
+ghost use Rattle.std.specs.Prelude.{◌≡◌, ◌++◌, codes, IfOk, OnOk, string_bytes};
 ghost use Rattle.std.specs.List.{flat_map};
+ghost use Rattle.serde_json.specs.Data.{put as with_member, string};
 ghost use Rattle.serde_json.specs.View.{view};
 ghost use Rattle.serde_json.specs.Written.{compact_text};
 ghost use Rattle.eos_text.specs.Adding.{Adds};
+ghost use Rattle.eos_verdict.specs.FaultTexts.{fault_text};
 ghost use Rattle.eos_report.specs.Lines.{line_value, json_line, fault_json_line, count_value, list_json};
-ghost use Rattle.eos_report.specs.steps.Fields.{with_fields};
+ghost use Rattle.eos_report.specs.FaultValues.{fault_value};
+ghost use Rattle.eos_report.specs.steps.Held.{held};
 
 use crate::json_fault::value_of_fault;
 use crate::object::Object;
-use crate::{no_json, verdict_json};
+use crate::verdict_json;
 use eos_text::push_text;
-use eos_verdict::{Fault, Verdict};
+use eos_verdict::{Fault, Verdict, text_of_fault};
 use serde_json::{Value, json};
 use std::alloc::{AllocError, Global};
 
@@ -41,23 +44,20 @@ fn value_of_line(alloc: Global, verdict: &Verdict) -> Result<Value, AllocError>
 fn value_of_no(alloc: Global, fault: &Fault) -> Result<Value, AllocError>
     ensures { IfOk result (λ value. view value ≡ line_value (Verdict.No fault.now)) }
 {
-    let fields = value_of_fault(alloc, fault)?;
-    let value = no_json(alloc, fault)?;
-    with_fields(alloc, value, fields)
+    let mut made = Object::new(alloc);
+    put_no(alloc, &mut made, fault)?;
+    Ok(made.into_value())
 }
 
-/// An object with one member more.
-fn with_fields(alloc: Global, value: Value, fields: Value) -> Result<Value, AllocError>
-    ensures { IfOk result (λ made. view made ≡ with_fields (view value) (view fields)) }
+/// Puts in what the object of a verdict has that names this fault, and the fields of the fault.
+fn put_no(alloc: Global, out: &mut Object, fault: &Fault) -> Result<(), AllocError>
+    ensures { OnOk result (held out.new ≡ with_member (codes "fields") (fault_value fault.now) (with_member (codes "answer") (string (codes "no")) (with_member (codes "fault") (string (fault_text fault.now)) (held out.old)))) }
 {
-    match value {
-        Value::Object(members) => {
-            let mut made = Object::of(alloc, members);
-            made.put("fields", fields)?;
-            Ok(made.into_value())
-        }
-        other => Ok(other),
-    }
+    let text = text_of_fault(alloc, fault)?;
+    out.put_str("fault", text.as_str())?;
+    out.put_str("answer", "no")?;
+    let fields = value_of_fault(alloc, fault)?;
+    out.put("fields", fields)
 }
 
 /// For each fault the JSON line of the verdict that names it, and then the line `{"faults":N}`, each after the words on which folder

@@ -1,8 +1,8 @@
 //! A JSON object that is being made.
 
 ghost use Rattle.std.specs.Prelude.{◌≡◌, IfOk, OnOk, codes};
-ghost use Rattle.serde_json.specs.Data.{no_members, put as with_member, object, string};
-ghost use Rattle.serde_json.specs.View.{view, members_view};
+ghost use Rattle.serde_json.specs.Data.{boolean, no_members, put as with_member, object, string};
+ghost use Rattle.serde_json.specs.View.{view};
 ghost use Rattle.eos_report.specs.steps.Held.{held};
 ghost use Rattle.hex.specs.Hex.{encode_lower};
 ghost use Rattle.eos_report.specs.Values.{text_value, count, integer, with_partition, with_place, place_value};
@@ -28,13 +28,6 @@ impl Object {
         }
     }
 
-    /// One that has these members already.
-    pub(crate) fn of(alloc: Global, members: Map<String, Value>) -> Object
-        ensures { held result ≡ members_view members.entries }
-    {
-        Object { alloc, members }
-    }
-
     /// Puts a member in, or in the place of one of its name.
     pub(crate) fn put(&mut self, name: &str, value: Value) -> Result<(), AllocError>
         ensures { OnOk result (held self.new ≡ with_member name.now (view value) (held self.old)) }
@@ -54,6 +47,12 @@ impl Object {
         ensures { OnOk result (held self.new ≡ with_member name.now (integer n) (held self.old)) }
     {
         self.put(name, Value::from(n))
+    }
+
+    pub(crate) fn put_flag(&mut self, name: &str, flag: bool) -> Result<(), AllocError>
+        ensures { OnOk result (held self.new ≡ with_member name.now (boolean flag) (held self.old)) }
+    {
+        self.put(name, Value::Bool(flag))
     }
 
     pub(crate) fn put_str(&mut self, name: &str, text: &str) -> Result<(), AllocError>
