@@ -41,7 +41,7 @@ TABLE = {
             verify_folds write_fold
         eos_disk: FoldRefusal first_fold refused_fold
         eos_fold: ByteFold fold
-        eos_fold_file: FoldFault FoldField FoldFile FoldHead FoldKept FoldText FoldTextList FoldTexts decode_fold encode_fold fold fold_of read_fold write_fold
+        eos_fold_file: FoldFault FoldField FoldFile FoldHead FoldKept FoldTexts decode_fold encode_fold fold fold_of fold_texts read_fold write_fold
         eos_kept: SegmentFold fold
         eos_source: fold read_fold
         eos_words: FOLD FOLDS FOLD_USAGE FOLD_WRITES Fold fold_arguments read_fold
@@ -49,7 +49,7 @@ TABLE = {
     "run": """
         eos_board: into_runs
         eos_check: is_run_of made_run next_run own_run run_of runs_of
-        eos_fold_file: run run_front run_of run_texts
+        eos_fold_file: run run_front run_of
         eos_kept: KeptRun Run kept_run run
         eos_source: next_run
         """,

@@ -9,7 +9,7 @@ use Rattle.eos_reading.proofs.ClaimHeaders.{back}
 use Rattle.eos_reading.specs.Outputs.{KeptOutput, kept_output, claim_kept}
 use Rattle.eos_reading.specs.Records.{ReadsBack}
 use Rattle.eos_reading.proofs.ExactClaims.{exact_claim}
-use Rattle.eos_fold_file.specs.declared.claim.FoldText.{FoldText}
+use Rattle.eos_fold_file.specs.Records.{FoldText}
 use Rattle.eos_fold_file.specs.declared.file.FoldFile.{FoldFile}
 use Rattle.eos_fold_file.specs.declared.file.FoldKept.{FoldKept}
 use Rattle.eos_fold_file.specs.declared.file.FoldKept.TheVariants.{Presence, Claims, Texts}

@@ -23,17 +23,19 @@ use Rattle.eos_reading.specs.Kept.{kept_in, kept_of}
 use Rattle.eos_reading.specs.Seals.{AreSeals, entries_of}
 use Rattle.eos_reading.proofs.KeptLists.{taken_back}
 use Rattle.eos_reading.specs.Outputs.{KeptOutput, kept_output}
+use Rattle.eos_reading.specs.Records.{wanted_record}
+use Rattle.eos_reading.specs.declared.wanted.Wanted.TheVariants as wants
 use Rattle.eos_fold_file.specs.declared.file.FoldFile.{FoldFile}
 use Rattle.eos_fold_file.specs.declared.file.FoldKept.{FoldKept}
 use Rattle.eos_fold_file.specs.declared.file.FoldKept.TheVariants.{Presence, Claims, Texts}
 use Rattle.eos_fold_file.specs.declared.head.FoldHead.{FoldHead}
 use Rattle.eos_fold_file.specs.Epochs.{are_entries}
 use Rattle.eos_fold_file.specs.Files.{record_count, data_count, size_sum}
-use Rattle.eos_fold_file.specs.Folds.{HasFoldHeads, IsKeptOf, checksums_in}
+use Rattle.eos_fold_file.specs.Folds.{HasFoldHeads, fold_text_of, IsKeptOf, checksums_in}
 use Rattle.eos_fold_file.specs.Stops.{is_inside}
 use Rattle.eos_wire.specs.Crc.{crc32c_of}
 use Rattle.eos_fold_file.specs.Heads.{fold_head}
-use Rattle.eos_fold_file.specs.Records.{is_placed}
+use Rattle.eos_fold_file.specs.Records.{FoldText, is_placed}
 use Rattle.eos_fold_file.specs.Legal.{IsRightStop, IsRightKept, IsRight}
 use Rattle.eos_fold_file.specs.declared.front.Front.{Front}
 use Rattle.eos_fold_file.specs.declared.pass.Passed.{Passed}
@@ -46,6 +48,7 @@ use Rattle.eos_reading.proofs.SealSteps.{seals_taken, entries_are}
 use Rattle.eos_fold_file.proofs.SealSteps.{checksums_are}
 use Rattle.eos_fold_file.proofs.HeadCounts.{kept_counted, records_counted, records_fit, all_possible}
 use Rattle.eos_fold_file.proofs.PlacedClaims.{all_placed}
+use Rattle.eos_fold_file.proofs.KeptMapped.{texts_kept}
 
 pub heads_fit : (bytes : List ℕ) (bs : List Batch) (hs : List BatchHead) (rest : List ℕ) → HasHeads bytes bs hs rest → AllFit hs
 heads_fit bytes [] [] rest s = tt
@@ -143,6 +146,22 @@ claims_front asked topics outputs kept begin bytes f same are h = record {
   stops = h.stops;
   right = h.right;
   kept_is = are ∙ (h.kept_is ∙ ap (λ (ts : List (List ℕ)). kept_of (λ offset r. kept_output ts (claim_of r.headers)) h.batches) (sym same));
+  sized = h.sized;
+}
+
+-- what is kept of texts, as a fold has it
+pub texts_front : (records : List Record) (texts : List FoldText) (begin : ℕ) (bytes : List ℕ) (f : Front) → texts ≡ map fold_text_of records
+    → IsFront begin bytes (λ bs. records ≡ kept_of (λ offset r. wanted_record wants.Texts r) bs) f → IsFront begin bytes (λ bs. IsKeptOf bs (Texts texts)) f
+texts_front records texts begin bytes f are h = record {
+  batches = h.batches;
+  rest = h.rest;
+  heads_are = h.heads_are;
+  continuous = h.continuous;
+  epochs_are = h.epochs_are;
+  checked = h.checked;
+  stops = h.stops;
+  right = h.right;
+  kept_is = texts_kept h.batches records texts are h.kept_is;
   sized = h.sized;
 }
 

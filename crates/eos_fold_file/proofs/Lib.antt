@@ -27,6 +27,8 @@ pub mod FrontSteps
 pub mod HeadsPassed
 pub mod ClaimLimits
 pub mod EachSoFar
+pub mod TextsListed
+pub mod KeptMapped
 pub mod FoldSaid
 pub mod RunsTaken
 mod RefusedFields

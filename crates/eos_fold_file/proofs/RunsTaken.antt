@@ -1,24 +1,21 @@
 -- A fold of a segment, taken as what is kept of the segment.
-use Rattle.std.proofs.Common.{◌≡◌, ℕ, ◌+◌, suc, Bool, not, cond, true, false, List, [], ◌∷◌, ◌++◌, length, map, refl, sym, ap, subst, ◌∙◌, arith}
+use Rattle.std.proofs.Common.{◌≡◌, ℕ, ◌+◌, not, List, [], ◌∷◌, length, map, refl, sym, ap, subst, ◌∙◌, arith}
 use Rattle.std.specs.Prelude.{⊤, All, unsigned_abs}
-use Rattle.std.proofs.lemmas.List.{map-append}
 use Rattle.std.proofs.lemmas.List.Elements.{All-map, All-weaker}
 use Rattle.eos_batch.specs.declared.batch.Batch.{Batch}
 use Rattle.eos_batch.specs.declared.record.Record.{Record}
-use Rattle.eos_batch.specs.Attributes.{is_control}
-use Rattle.eos_batch.specs.Offsets.{offset_of}
 use Rattle.eos_evidence.specs.declared.segment.Segment.{Segment}
 use Rattle.eos_evidence.specs.Topics.{is_internal}
 use Rattle.eos_touch.specs.Front.{records_in, ContinuesFrom}
 use Rattle.eos_fold.specs.declared.stop.Stop.{Stop}
 use Rattle.eos_fold.specs.Fronts.{base_of, StopsAt, IsSegmentFront}
 use Rattle.eos_fold.specs.Sums.{is_checked}
-use Rattle.eos_reading.specs.Kept.{kept_from, kept_in, kept_of}
+use Rattle.eos_reading.specs.Kept.{kept_of}
 use Rattle.eos_reading.specs.declared.wanted.Wanted.{Wanted}
 use Rattle.eos_reading.specs.declared.wanted.Wanted.TheVariants as wants
 use Rattle.eos_reading.specs.Wanted.{wanted_headers}
 use Rattle.eos_reading.specs.Records.{wanted_record, ReadsBack}
-use Rattle.eos_fold_file.specs.declared.claim.FoldText.{FoldText}
+use Rattle.eos_fold_file.specs.Records.{FoldText}
 use Rattle.eos_fold_file.specs.declared.file.FoldFile.{FoldFile}
 use Rattle.eos_fold_file.specs.declared.file.FoldKept.{FoldKept}
 use Rattle.eos_fold_file.specs.declared.file.FoldKept.TheVariants as kinds
@@ -39,6 +36,7 @@ use Rattle.eos_kept.specs.Records.{SaysClaim}
 use Rattle.eos_kept.specs.KeptRuns.{IsKeptRun, HasClaims, wanted_by}
 use Rattle.eos_fold_file.specs.steps.Heads.{AreFrom}
 use Rattle.eos_fold_file.specs.steps.Kept.{topics_in, text_record}
+use Rattle.eos_fold_file.proofs.KeptMapped.{of_map}
 use Rattle.eos_fold_file.proofs.HeadsPassed.{from_any, from_segment, fold_splits}
 
 -- ---- the batches
@@ -91,21 +89,8 @@ same_units (x ∷ xs) (y ∷ ys) e = ap (λ (zs : List ⊤). tt ∷ zs) (same_un
 pub units_told : (batches : List Batch) (units : List ⊤) (count : ℕ) → length units ≡ count → count ≡ data_count batches → units ≡ kept_of (λ (n : ℕ) (r : Record). tt) batches
 units_told batches units count len e = same_units units (kept_of (λ (n : ℕ) (r : Record). tt) batches) (len ∙ (e ∙ sym (kept_of-length (λ (n : ℕ) (r : Record). tt) batches)))
 
-module _ {K L : Type 0} (keep : ℕ → Record → K) (f : K → L) where
-  from_map : (n : ℕ) (rs : List Record) → map f (kept_from keep n rs) ≡ kept_from (λ n r. f (keep n r)) n rs
-  from_map n [] = refl
-  from_map n (r ∷ rs) = ap (λ (ls : List L). f (keep n r) ∷ ls) (from_map (suc n) rs)
-
-  of_map : (bs : List Batch) → map f (kept_of keep bs) ≡ kept_of (λ n r. f (keep n r)) bs
-  of_map [] = refl
-  of_map (b ∷ bs) = map-append f (kept_in keep b) (kept_of keep bs) ∙ (ap (λ (ls : List L). ls ++ map f (kept_of keep bs)) (by (is_control b.attributes)) ∙ ap (λ (ls : List L). kept_in (λ n r. f (keep n r)) b ++ ls) (of_map bs))
-    where
-      by : (c : Bool) → map f (cond c [] (kept_from keep (offset_of b) b.records)) ≡ cond c [] (kept_from (λ n r. f (keep n r)) (offset_of b) b.records)
-      by true = refl
-      by false = from_map (offset_of b) b.records
-
 pub texts_told : (batches : List Batch) (texts : List FoldText) (copies : List Record) → copies ≡ map text_record texts → texts ≡ kept_of (λ (n : ℕ) (r : Record). fold_text_of r) batches → copies ≡ kept_of (λ (n : ℕ) (r : Record). wanted_record wants.Texts r) batches
-texts_told batches texts copies e f = e ∙ (ap (map text_record) f ∙ of_map (λ (n : ℕ) (r : Record). fold_text_of r) text_record batches)
+texts_told batches texts copies e f = e ∙ (ap (map text_record) f ∙ of_map (λ (n : ℕ) (r : Record). fold_text_of r) text_record (λ (n : ℕ) (r : Record). wanted_record wants.Texts r) (λ n r. refl) batches)
 
 pub texts_said : (texts : List FoldText) → All (λ (t : FoldText). ReadsBack t.claim) texts → All SaysClaim (map text_record texts)
 texts_said texts all = All-map SaysClaim text_record texts (All-weaker (λ (t : FoldText). ReadsBack t.claim) (λ (t : FoldText). SaysClaim (text_record t)) (λ t back. ap wanted_headers (sym back)) texts all)

@@ -3,10 +3,9 @@ use Rattle.std.proofs.Common.{◌≡◌, ℕ, zero, suc, ◌<◌, ◌≤◌, ◌
 use Rattle.std.specs.Int.{w8}
 use Rattle.std.proofs.lemmas.List.{length-drop}
 use Rattle.eos_wire.specs.Numbers.{IsBytes, i8_text}
-use Rattle.eos_fold_file.specs.declared.claim.FoldText.{FoldText}
 use Rattle.eos_fold_file.specs.Legal.{Each, IsOptionalText, IsLegalText}
 use Rattle.eos_fold_file.specs.Numbers.{bytes_text, kind_from, bytes_from}
-use Rattle.eos_fold_file.specs.Records.{optional_claim_text, optional_claim_from}
+use Rattle.eos_fold_file.specs.Records.{FoldText, optional_claim_text, optional_claim_from}
 use Rattle.eos_fold_file.specs.Texts.{shared, last_text, shared_text, key_value_text, key_values_text, joined, rest_from, shared_of, shared_from, key_value_from, key_values_from}
 use Rattle.eos_fold_file.proofs.Takes.{as_read, bind_ok, ok_is, glue, Taken, IsCodec}
 use Rattle.eos_fold_file.proofs.NumberCodecs.{kind_codec, bytes_codec}

@@ -8,7 +8,6 @@ use Rattle.eos_fold.specs.declared.stop.Stop.{Stop}
 use Rattle.eos_fold.specs.declared.stop.Stop.TheVariants.{AtEnd, NoBatch, Elsewhere}
 use Rattle.eos_reading.specs.Outputs.{KeptOutput, Unclaimed, Asked, Foreign}
 use Rattle.eos_fold_file.specs.declared.claim.ClaimNumbers.{ClaimNumbers}
-use Rattle.eos_fold_file.specs.declared.claim.FoldText.{FoldText}
 use Rattle.eos_reading.specs.declared.epoch.EpochEntry.{EpochEntry}
 use Rattle.eos_fold_file.specs.declared.file.FoldFile.{FoldFile}
 use Rattle.eos_fold_file.specs.declared.file.FoldKept.{FoldKept}
@@ -16,7 +15,7 @@ use Rattle.eos_fold_file.specs.declared.file.FoldKept.TheVariants.{Presence, Cla
 use Rattle.eos_fold_file.specs.declared.head.BatchKind.{BatchKind}
 use Rattle.eos_fold_file.specs.declared.head.BatchKind.TheVariants.{Data, Control, Commit, Abort}
 use Rattle.eos_fold_file.specs.declared.head.FoldHead.{FoldHead}
-use Rattle.eos_fold_file.specs.Records.{is_placed, numbers_of}
+use Rattle.eos_fold_file.specs.Records.{FoldText, is_placed, numbers_of}
 use Rattle.eos_fold_file.specs.Heads.{is_possible}
 use Rattle.eos_fold_file.specs.Epochs.{are_entries}
 use Rattle.eos_fold_file.specs.Files.{data_count, fits_offsets, fits_bytes, stops_inside}

@@ -79,6 +79,12 @@ output_from bytes = kind_from bytes >>= output_of
 
 -- ---- of Kafka's own logs
 
+-- what is kept of a record: its key, its value, and the claim in its headers, where there is one
+pub record FoldText : Type 0 where
+  pub key : Option (List ℕ)
+  pub value : Option (List ℕ)
+  pub claim : Option Claim
+
 abbrev pub optional_claim_text : Option Claim → List ℕ
 optional_claim_text None = i8_text (pos 0)
 optional_claim_text (Some c) = i8_text (pos 1) ++ claim_text c

@@ -7,9 +7,8 @@ use Rattle.eos_base.specs.Fallible.{◌>>=◌, must}
 use Rattle.eos_wire.specs.Numbers.{i8_text}
 use Rattle.eos_fold_file.specs.declared.fault.FoldFault.{FoldFault}
 use Rattle.eos_fold_file.specs.declared.fault.FoldFault.TheVariants as faults
-use Rattle.eos_fold_file.specs.declared.claim.FoldText.{FoldText}
 use Rattle.eos_fold_file.specs.Numbers.{bytes_text, kind_from, bytes_from}
-use Rattle.eos_fold_file.specs.Records.{optional_claim_text, optional_claim_from}
+use Rattle.eos_fold_file.specs.Records.{FoldText, optional_claim_text, optional_claim_from}
 
 -- how many first bytes a text of so many can share: of what stands of it, its kind and its length are two bytes, so it is at most 16
 -- times as long as that

@@ -10,3 +10,5 @@ pub mod Sealing
 pub mod Fronts
 pub mod Heads
 pub mod Kept
+pub mod TextLists
+pub mod TextsRead

@@ -8,7 +8,7 @@
 //! | at 1 and 2: partition, offset, output, of | number, unsigned numbers | the claim, as its headers say it |
 //! | of Kafka's own logs: claim | kind | 0 none; 1 a claim: topic (text), partition, offset, output, of |
 
-ghost use Rattle.std.specs.Prelude.{◌≡◌, ◌++◌, IfOk, OnOk};
+ghost use Rattle.std.specs.Prelude.{◌≡◌, ◌++◌, option_map, IfOk, OnOk};
 ghost use Rattle.std.specs.List.{list_all};
 ghost use Rattle.eos_claims.specs.Slots.{plain_claim};
 ghost use Rattle.eos_fold_file.specs.Records.{is_placed, numbers_text, claim_text, optional_claim_text, output_text, numbers_from, claim_from, asked_from, foreign_from, some_claim_from, optional_claim_from, output_from};
@@ -20,20 +20,10 @@ use crate::fault::FoldFault;
 use crate::number::{
     read_bytes, read_i32, read_kind, read_u32, read_u64, write_number, write_slice, write_u64,
 };
-use bytes::Bytes;
 use eos_claims::{Claim, ClaimRef};
 use eos_reading::{AskedClaim, BoxedClaim, KeptOutput, OutputRef};
 use eos_wire::{Cursor, write_i8};
 use std::alloc::{AllocError, Global};
-
-/// What is kept of a record of Kafka's own logs: its key, its value and the claim in its headers, where there is one.
-#[derive(Drop)]
-pub struct FoldText {
-    pub key: Option<Bytes>,
-    pub value: Option<Bytes>,
-    /// In a box, since hardly a record has one.
-    pub claim: Option<BoxedClaim>,
-}
 
 /// A claim but for its topic.
 #[derive(Clone, Copy)]
@@ -247,16 +237,16 @@ pub(crate) fn read_optional_claim(
 
 pub(crate) fn write_optional_claim(
     out: &mut Vec<u8>,
-    claim: &Option<BoxedClaim>,
+    claim: Option<ClaimRef<'_>>,
 ) -> Result<(), AllocError>
-    ensures text { OnOk result (out.new.items ≡ out.old.items ++ optional_claim_text claim.now) }
-    ensures fit { OnOk result (IsLegalOptionalClaim claim.now) }
+    ensures text { OnOk result (out.new.items ≡ out.old.items ++ optional_claim_text (option_map plain_claim claim.entry)) }
+    ensures fit { OnOk result (IsLegalOptionalClaim (option_map plain_claim claim.entry)) }
 {
     match claim {
         None => write_i8(out, 0),
         Some(claim) => {
             write_i8(out, 1)?;
-            write_lent(out, claim.view())
+            write_lent(out, claim)
         }
     }
 }

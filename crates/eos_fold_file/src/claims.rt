@@ -6,13 +6,13 @@ ghost use Rattle.eos_reading.specs.Outputs.{claim_kept};
 ghost use Rattle.eos_reading.specs.Records.{ReadsBack};
 ghost use Rattle.eos_fold_file.specs.steps.Kept.{AreReadBack};
 
-use crate::{FoldKept, FoldText};
+use crate::FoldKept;
 use bytes::Bytes;
 use eos_claims::ClaimRef;
 use eos_reading::{BoxedClaim, KeptOutput};
 
 /// Whether there are headers that say a claim, or say none. Their numbers are signed, and none of a claim is below 0.
-fn is_said(claim: Option<ClaimRef<'_>>) -> bool
+pub(crate) fn is_said(claim: Option<ClaimRef<'_>>) -> bool
     ensures yes { result ≡ true → ReadsBack (option_map plain_claim claim.entry) }
     ensures no { ReadsBack (option_map plain_claim claim.entry) → result ≡ true }
 {
@@ -50,18 +50,6 @@ fn are_outputs_said(topics: &[Bytes], outputs: &[KeptOutput]) -> bool
     true
 }
 
-fn are_texts_said(texts: &[FoldText]) -> bool
-    ensures yes { result ≡ true → All (λ text. ReadsBack text.claim) texts.now }
-    ensures no { All (λ text. ReadsBack text.claim) texts.now → result ≡ true }
-{
-    for text in texts {
-        if !is_said(lent(&text.claim)) {
-            return false;
-        }
-    }
-    true
-}
-
 /// Whether there are headers that say each claim.
 pub(crate) fn are_said(kept: &FoldKept) -> bool
     ensures yes { result ≡ true → AreReadBack kept.now }
@@ -72,6 +60,6 @@ pub(crate) fn are_said(kept: &FoldKept) -> bool
         FoldKept::Claims { topics, outputs } => {
             are_outputs_said(topics.as_slice(), outputs.as_slice())
         }
-        FoldKept::Texts(texts) => are_texts_said(texts.as_slice()),
+        FoldKept::Texts(texts) => texts.are_said(),
     }
 }

@@ -3,7 +3,7 @@
 ghost use Rattle.std.specs.Prelude.{◌≡◌};
 ghost use Rattle.eos_fold_file.specs.Files.{wanted_in};
 
-use crate::claim::FoldText;
+use crate::fold_texts::FoldTexts;
 use crate::head::FoldHead;
 use bytes::Bytes;
 use eos_base::Listed;
@@ -22,7 +22,7 @@ pub enum FoldKept {
         outputs: Listed<KeptOutput>,
     },
     /// The key, the value and the claim of each.
-    Texts(Listed<FoldText>),
+    Texts(FoldTexts),
 }
 
 impl FoldKept {

@@ -8,13 +8,13 @@ ghost use Rattle.eos_fold_file.specs.Folds.{IsKeptOf, IsAskedAs, IsFoldOf};
 ghost use Rattle.eos_fold_file.specs.Legal.{IsRight};
 ghost use Rattle.eos_fold_file.specs.steps.Fronts.{IsFront};
 
-use crate::folding_texts::FoldTexts;
+use crate::fold_texts::FoldTexts;
 use crate::front::{Front, read_front};
 use crate::{FoldFile, FoldKept};
 use bytes::Bytes;
 use eos_base::Listed;
 use eos_evidence::{MAX_SEGMENT_BYTES, ReadFault, Segment};
-use eos_reading::{Nothing, Outputs, Wanted};
+use eos_reading::{Nothing, Outputs, Texts, Wanted};
 use std::alloc::{AllocError, Global};
 use std::io::Read;
 
@@ -60,8 +60,8 @@ fn read_kept<R: Read>(
             Ok((front, kept))
         }
         Wanted::Texts => {
-            let (front, texts) = read_front(alloc, &FoldTexts, begin, reader)?;
-            Ok((front, FoldKept::Texts(Listed::new(texts.into_vec()))))
+            let (front, texts) = read_front(alloc, &Texts, begin, reader)?;
+            Ok((front, FoldKept::Texts(FoldTexts::of(alloc, texts))))
         }
     }
 }

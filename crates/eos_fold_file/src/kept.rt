@@ -13,7 +13,6 @@ ghost use Rattle.eos_kept.specs.KeptRuns.{IsKeptRun, HasClaims, wanted_by, front
 ghost use Rattle.eos_fold_file.specs.steps.Kept.{AreReadBack, topics_in};
 
 use crate::FoldKept;
-use crate::run_texts::copies_of;
 use eos_kept::{Front, Kept, KeptRun, Sizes};
 use eos_reading::KeptOutputs;
 use std::alloc::{AllocError, Global};
@@ -48,8 +47,7 @@ pub(crate) fn with_kept(
             Ok(KeptRun::Claims(Kept::new(front, outputs, sizes)))
         }
         FoldKept::Texts(texts) => {
-            let texts = copies_of(alloc, texts.as_slice())?;
-            Ok(KeptRun::Texts(Kept::new(front, texts, sizes)))
+            Ok(KeptRun::Texts(Kept::new(front, texts.into_texts(), sizes)))
         }
     }
 }

@@ -9,18 +9,20 @@
 //! shares fewer bytes than it can is refused, so it has one spelling only. It can share at most 127, and of a long text not the last
 //! sixteenth, so no text is more than 16 times as long as what stands of it.
 
-ghost use Rattle.std.specs.Prelude.{◌≡◌, ◌++◌, ◌≤◌, ◌<◌, ◌+◌, ◌^◌, ◌==◌, [], length, take, nat_eq, Some, IfOk, OnOk};
+ghost use Rattle.std.specs.Prelude.{◌≡◌, ◌++◌, ◌≤◌, ◌<◌, ◌+◌, ◌^◌, ◌==◌, [], true, length, take, nat_eq, option_map, Some, IfOk, IfErr, OnOk};
 ghost use Rattle.std.specs.List.{common_prefix_len};
-ghost use Rattle.eos_fold_file.specs.Faults.{Answers};
+ghost use Rattle.eos_fold_file.specs.Faults.{Fails};
 ghost use Rattle.eos_fold_file.specs.Legal.{Each, IsText, IsOptionalText, IsLegalText};
 ghost use Rattle.eos_fold_file.specs.Texts.{most_shared, shared, last_text, shared_text, key_value_text, key_values_text, joined, rest_from, shared_from, key_value_from, key_values_from};
 ghost use Rattle.eos_fold_file.specs.steps.Faults.{Gives};
+ghost use Rattle.eos_fold_file.specs.steps.TextLists.{plain_text};
+ghost use Rattle.eos_fold_file.specs.steps.TextsRead.{text_there, Becomes, GivesText, IsTextRead};
 
-use crate::claim::{FoldText, read_optional_claim, write_optional_claim};
+use crate::claim::{read_optional_claim, write_optional_claim};
 use crate::fault::FoldFault;
+use crate::fold_texts::{FoldTexts, TextRef};
 use crate::number::{read_kind, read_text_bytes, write_slice};
-use bytes::{Bytes, BytesMut};
-use eos_base::Listed;
+use eos_reading::KeptList;
 use eos_wire::{Cursor, write_i8};
 use std::alloc::{AllocError, Global};
 
@@ -29,12 +31,6 @@ const MOST: usize = 127;
 
 /// What stands of a text is at least its length by this number.
 const SHARE: usize = 16;
-
-/// The fewest bytes of a record.
-const LEAST: usize = 3;
-
-/// How large the blocks are in which texts lie, or as one text where that is larger.
-const BLOCK: usize = 0x4000;
 
 /// How many first bytes both have in common.
 fn common(front: &[u8], text: &[u8]) -> usize
@@ -87,122 +83,89 @@ fn is_most(before: &[u8], count: usize, rest: &[u8]) -> bool
     before[count] != rest[0]
 }
 
-/// Bytes, and those behind them. Many texts lie in one block.
-fn copied(room: &mut BytesMut, front: &[u8], rest: &[u8]) -> Result<Bytes, AllocError>
-    requires { room.old.items ≡ [] }
-    ensures text { IfOk result (λ text. text ≡ front.now ++ rest.now) }
-    ensures short { IfOk result (λ text. length text < 2 ^ 63) }
-    ensures room { OnOk result (room.new.items ≡ []) }
-{
-    let Some(size) = front.len().checked_add(rest.len()) else {
-        return Err(AllocError);
-    };
-    if room.capacity() < size {
-        room.reserve(size.max(BLOCK))?;
-    }
-    room.extend_from_slice(front)?;
-    room.extend_from_slice(rest)?;
-    room.freeze_to(room.len())
-}
-
-/// A text that shares so many bytes with the one before, and no more.
+/// Makes the text before the one that shares so many bytes with it, and no more.
 #[tactic(auto, using(crate::proofs::Shared::joined_far, crate::proofs::Shared::joined_fewer, crate::proofs::Shared::joined_some))]
-fn joined(room: &mut BytesMut, before: &[u8], count: usize, rest: &[u8]) -> Result<Bytes, FoldFault>
-    requires { room.old.items ≡ [] }
-    ensures text { Answers result (joined before.now count rest.now) }
-    ensures room { OnOk result (room.new.items ≡ []) }
+fn join(before: &mut Vec<u8>, count: usize, rest: &[u8]) -> Result<(), FoldFault>
+    ensures { Becomes result before.new.items (joined before.old.items count rest.now) }
 {
     if before.len() < count {
         return Err(FoldFault::Record);
     }
-    if !is_most(before, count, rest) {
+    if !is_most(before.as_slice(), count, rest) {
         return Err(FoldFault::Record);
     }
-    Ok(copied(room, &before[..count], rest)?)
+    before.truncate(count);
+    before.extend_from_slice(rest)?;
+    Ok(())
 }
 
 #[tactic(auto, unfolding(crate::specs::Texts::rest_from))]
-fn read_rest(
-    room: &mut BytesMut,
-    rest: &mut Cursor<'_>,
-    before: &[u8],
-    count: usize,
-) -> Result<Option<Bytes>, FoldFault>
-    requires { room.old.items ≡ [] }
-    ensures text { Gives result rest.new (rest_from before.now count rest.old) }
-    ensures room { OnOk result (room.new.items ≡ []) }
+fn read_rest(rest: &mut Cursor<'_>, before: &mut Vec<u8>, count: usize) -> Result<bool, FoldFault>
+    ensures text { GivesText result before.new.items rest.new (rest_from before.old.items count rest.old) }
+    ensures some { IfOk result (λ some. some ≡ true) }
 {
     let behind = read_text_bytes(rest)?;
-    let text = joined(room, before, count, behind.rest())?;
-    Ok(Some(text))
+    join(before, count, behind.rest())?;
+    Ok(true)
 }
 
+/// Reads a text, which becomes the one before, unless it is null. Returns whether it isn't.
 #[tactic(auto, unfolding(crate::specs::Texts::shared_from))]
-fn read_shared(
-    room: &mut BytesMut,
-    rest: &mut Cursor<'_>,
-    before: &[u8],
-) -> Result<Option<Bytes>, FoldFault>
-    requires { room.old.items ≡ [] }
-    ensures text { Gives result rest.new (shared_from before.now rest.old) }
-    ensures room { OnOk result (room.new.items ≡ []) }
+fn read_shared(rest: &mut Cursor<'_>, before: &mut Vec<u8>) -> Result<bool, FoldFault>
+    ensures text { GivesText result before.new.items rest.new (shared_from before.old.items rest.old) }
+    ensures last { IfOk result (λ some. before.new.items ≡ last_text before.old.items (text_there some before.new.items)) }
 {
     let shared = read_kind(rest)?;
     if shared == -1 {
-        return Ok(None);
+        return Ok(false);
     }
     if shared < 0 {
         return Err(FoldFault::Record);
     }
-    read_rest(room, rest, before, shared as usize)
+    read_rest(rest, before, shared as usize)
 }
 
-#[tactic(auto, unfolding(crate::specs::Texts::key_value_from))]
+/// A text, where it isn't null.
+fn there(some: bool, text: &[u8]) -> Option<&[u8]>
+    ensures { option_map (λ s. s.now) result ≡ text_there some text.now }
+{
+    if some { Some(text) } else { None }
+}
+
+/// Reads a record behind others. Its key and its value become those before, where they aren't null.
+#[tactic(auto, using(crate::proofs::TextLoop::text_read), unfolding(crate::specs::Texts::key_value_from))]
 fn read_text(
     alloc: Global,
-    room: &mut BytesMut,
     rest: &mut Cursor<'_>,
-    key_before: &[u8],
-    value_before: &[u8],
-) -> Result<FoldText, FoldFault>
-    requires { room.old.items ≡ [] }
-    ensures text { Gives result rest.new (key_value_from key_before.now value_before.now rest.old) }
-    ensures room { OnOk result (room.new.items ≡ []) }
+    key: &mut Vec<u8>,
+    value: &mut Vec<u8>,
+    texts: &mut FoldTexts,
+) -> Result<(), FoldFault>
+    ensures ok { OnOk result (IsTextRead key.old.items value.old.items rest.old texts.old (key.new.items, value.new.items, rest.new, texts.new)) }
+    ensures err { IfErr result (λ e. Fails e (key_value_from key.old.items value.old.items rest.old)) }
 {
-    let key = read_shared(room, rest, key_before)?;
-    let value = read_shared(room, rest, value_before)?;
+    let has_key = read_shared(rest, key)?;
+    let has_value = read_shared(rest, value)?;
     let claim = read_optional_claim(alloc, rest)?;
-    Ok(FoldText { key, value, claim })
+    let key = there(has_key, key.as_slice());
+    let value = there(has_value, value.as_slice());
+    texts.push(alloc, key, value, claim)?;
+    Ok(())
 }
 
-/// The last text that isn't null.
-fn last(before: Bytes, text: &Option<Bytes>) -> Result<Bytes, AllocError>
-    ensures { IfOk result (λ last. last ≡ last_text before text.now) }
-{
-    match text {
-        None => Ok(before),
-        Some(text) => text.clone(),
-    }
-}
-
-/// So many records. Their list has room for no more of them than the bytes that are left can say.
+/// So many records. No more is kept than what was read says, whatever the count.
 pub(crate) fn read_texts(
     alloc: Global,
     rest: &mut Cursor<'_>,
     count: u64,
-) -> Result<Listed<FoldText>, FoldFault>
+) -> Result<FoldTexts, FoldFault>
     ensures { Gives result rest.new (key_values_from [] [] count rest.old) }
 {
-    let most = count.min((rest.left() / LEAST) as u64) as usize;
-    let mut texts = Listed::new(Vec::with_capacity(alloc, most)?);
-    let mut room = BytesMut::new(alloc);
-    let mut key = Bytes::new();
-    let mut value = Bytes::new();
+    let mut texts = FoldTexts::of(alloc, KeptList::new(alloc));
+    let mut key = Vec::new(alloc);
+    let mut value = Vec::new(alloc);
     for _ in 0..count {
-        let text = read_text(alloc, &mut room, rest, key.as_slice(), value.as_slice())?;
-        key = last(key, &text.key)?;
-        value = last(value, &text.value)?;
-        texts.push(text)?;
+        read_text(alloc, rest, &mut key, &mut value, &mut texts)?;
     }
     Ok(texts)
 }
@@ -218,13 +181,13 @@ fn write_some(out: &mut Vec<u8>, before: &[u8], text: &[u8]) -> Result<(), Alloc
     write_slice(out, &text[count..])
 }
 
-fn write_shared(out: &mut Vec<u8>, before: &[u8], text: &Option<Bytes>) -> Result<(), AllocError>
-    ensures text { OnOk result (out.new.items ≡ out.old.items ++ shared_text before.now text.now) }
-    ensures fit { OnOk result (IsOptionalText text.now) }
+fn write_shared(out: &mut Vec<u8>, before: &[u8], text: Option<&[u8]>) -> Result<(), AllocError>
+    ensures text { OnOk result (out.new.items ≡ out.old.items ++ shared_text before.now (option_map (λ s. s.now) text.entry)) }
+    ensures fit { OnOk result (IsOptionalText (option_map (λ s. s.now) text.entry)) }
 {
     match text {
         None => write_i8(out, -1),
-        Some(text) => write_some(out, before, text.as_slice()),
+        Some(text) => write_some(out, before, text),
     }
 }
 
@@ -232,37 +195,38 @@ fn write_text(
     out: &mut Vec<u8>,
     key_before: &[u8],
     value_before: &[u8],
-    text: &FoldText,
+    text: TextRef<'_>,
 ) -> Result<(), AllocError>
-    ensures text { OnOk result (out.new.items ≡ out.old.items ++ key_value_text key_before.now value_before.now text.now) }
-    ensures fit { OnOk result (IsLegalText text.now) }
+    ensures text { OnOk result (out.new.items ≡ out.old.items ++ key_value_text key_before.now value_before.now (plain_text text.entry)) }
+    ensures fit { OnOk result (IsLegalText (plain_text text.entry)) }
 {
-    write_shared(out, key_before, &text.key)?;
-    write_shared(out, value_before, &text.value)?;
-    write_optional_claim(out, &text.claim)
+    write_shared(out, key_before, text.key)?;
+    write_shared(out, value_before, text.value)?;
+    write_optional_claim(out, text.claim)
 }
 
-/// The last text that isn't null, lent.
-fn last_of<'a>(before: &'a [u8], text: &'a Option<Bytes>) -> &'a [u8]
-    ensures { result.now ≡ last_text before.now text.now }
+/// The last text that isn't null.
+fn last_of<'a>(before: &'a [u8], text: Option<&'a [u8]>) -> &'a [u8]
+    ensures { result.now ≡ last_text before.now (option_map (λ s. s.now) text.entry) }
 {
     match text {
         None => before,
-        Some(text) => text.as_slice(),
+        Some(text) => text,
     }
 }
 
 /// Appends records, one after the other.
-pub(crate) fn write_texts(out: &mut Vec<u8>, texts: &[FoldText]) -> Result<(), AllocError>
+pub(crate) fn write_texts(out: &mut Vec<u8>, texts: &FoldTexts) -> Result<(), AllocError>
     ensures text { OnOk result (out.new.items ≡ out.old.items ++ key_values_text [] [] texts.now) }
     ensures fit { OnOk result (Each IsLegalText texts.now) }
 {
     let mut key: &[u8] = &[];
     let mut value: &[u8] = &[];
-    for text in texts {
+    for i in 0..texts.len() {
+        let text = texts.view(i);
         write_text(out, key, value, text)?;
-        key = last_of(key, &text.key);
-        value = last_of(value, &text.value);
+        key = last_of(key, text.key);
+        value = last_of(value, text.value);
     }
     Ok(())
 }

@@ -76,7 +76,7 @@ fn write_kept(out: &mut Vec<u8>, kept: &FoldKept) -> Result<(), AllocError>
             write_many(out, topics.as_slice())?;
             write_many(out, outputs.as_slice())
         }
-        FoldKept::Texts(texts) => write_texts(out, texts.as_slice()),
+        FoldKept::Texts(texts) => write_texts(out, texts),
     }
 }
 

@@ -3,7 +3,7 @@ use Rattle.std.specs.Prelude.{ℕ, List, [], All, ⊤}
 use Rattle.eos_batch.specs.declared.record.Record.{Record}
 use Rattle.eos_reading.specs.Outputs.{claim_kept}
 use Rattle.eos_reading.specs.Records.{record_of, ReadsBack}
-use Rattle.eos_fold_file.specs.declared.claim.FoldText.{FoldText}
+use Rattle.eos_fold_file.specs.Records.{FoldText}
 use Rattle.eos_fold_file.specs.declared.file.FoldKept.{FoldKept}
 use Rattle.eos_fold_file.specs.declared.file.FoldKept.TheVariants.{Presence, Claims, Texts}
 

@@ -4,7 +4,7 @@ use Rattle.eos_batch.specs.declared.record.Record.{Record}
 use Rattle.eos_reading.specs.Kept.{kept_of}
 use Rattle.eos_reading.specs.declared.wanted.Wanted.TheVariants as wants
 use Rattle.eos_reading.specs.Records.{wanted_record, ReadsBack}
-use Rattle.eos_fold_file.specs.declared.claim.FoldText.{FoldText}
+use Rattle.eos_fold_file.specs.Records.{FoldText}
 use Rattle.eos_fold_file.specs.Folds.{fold_text_of, IsKeptOf}
 use Rattle.eos_kept.specs.Records.{SaysClaim}
 use Rattle.eos_fold_file.specs.steps.Kept.{AreReadBack}
@@ -21,15 +21,12 @@ returns-in-Presence-clause-ok c = λ segments batches front sized count kept.
 pub returns-clause-ok : goal.returns-clause-ok
 returns-clause-ok c = λ segments batches front sized count kept.
     let of : c.in-Texts.texts ≡ kept_of (λ (n : ℕ) (r : Record). fold_text_of r) batches = subst (IsKeptOf batches) c.in-Texts.is kept in
-    let same : c.as_slice.result.now ≡ c.in-Texts.texts = search rules in
-    let copies = c.in_ok-texts-in-Texts.texts.list in
+    let copies = c.into_texts.result.list in
     let e = c.new-in-Texts.ensures in
     kept_told (λ (n : ℕ) (r : Record). wanted_record wants.Texts r) segments batches c.new-in-Texts.result c.args.front copies c.args.sizes e.front e.kept e.sizes front sized
-    (texts_told batches c.as_slice.result.now copies c.in_ok-texts-in-Texts.ensures (same ∙ of))
+    (texts_told batches c.in-Texts.texts copies c.into_texts.ensures of)
 
 pub returns-clause-claims : goal.returns-clause-claims
 returns-clause-claims c =
-    let same : c.as_slice.result.now ≡ c.in-Texts.texts = search rules in
     let back : All (λ (t : FoldText). ReadsBack t.claim) c.in-Texts.texts = subst AreReadBack c.in-Texts.is c.requires.claims in
-    let said = texts_said c.as_slice.result.now (subst (All (λ (t : FoldText). ReadsBack t.claim)) (sym same) back) in
-    subst (All SaysClaim) (sym (c.new-in-Texts.ensures.kept ∙ c.in_ok-texts-in-Texts.ensures)) said
+    subst (All SaysClaim) (sym (c.new-in-Texts.ensures.kept ∙ c.into_texts.ensures)) (texts_said c.in-Texts.texts back)
