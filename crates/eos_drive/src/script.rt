@@ -55,6 +55,18 @@ impl Script {
         )
     }
 
+    /// These words.
+    ///
+    /// # Errors
+    /// Where a growth was refused.
+    pub fn of_words(alloc: Global, words: &[u32]) -> Result<Script, AllocError>
+        ensures { IfOk result (λ s. s ≡ words.now) }
+    {
+        Ok(Script {
+            words: words.to_vec(alloc)?,
+        })
+    }
+
     /// Its words, in order.
     pub fn words(&self) -> &[u32]
         ensures { result.now ≡ self.now }
