@@ -191,9 +191,12 @@ _eoscheck() {
     --count)
       mapfile -t COMPREPLY < <(compgen -W '' -- "$word")
       return ;;
+    --every)
+      mapfile -t COMPREPLY < <(compgen -W '' -- "$word")
+      return ;;
     esac
     case $word in
-    -*) mapfile -t COMPREPLY < <(compgen -W '--seed --events --applications --inputs --outputs --transaction-logs --segment-records --batch-records --chain --lose --repeat --abandon --members --restart-broker --restart-coordinator --abort --switch --switch-at --no-tail --mishap --stop-anywhere --collect --history --labels --schedule --count --swarm --progress -h --help' -- "$word") ;;
+    -*) mapfile -t COMPREPLY < <(compgen -W '--seed --events --applications --inputs --outputs --transaction-logs --segment-records --batch-records --chain --lose --repeat --abandon --members --restart-broker --restart-coordinator --abort --switch --switch-at --no-tail --mishap --stop-anywhere --collect --history --labels --schedule --count --swarm --every --progress -h --help' -- "$word") ;;
     *) mapfile -t COMPREPLY < <(compgen -d -- "$word") ;;
     esac ;;
   shrink)

@@ -58,6 +58,7 @@ def commands(room):
         (["coordinator", "billing"], None),
         (["simulate", "--seed", "7", "--events", "60", "--history", f"{room}/history", f"{room}/simulated"], f"{room}/simulated/evidence.json"),
         (["simulate", "--schedule", f"{room}/history.kept", f"{room}/again"], f"{room}/again/evidence.json"),
+        (["simulate", "--every", "2"], None),
         (["shrink", "--fault", "1.5", f"{room}/faulty.kept", f"{room}/small"], f"{room}/small"),
         (["fold", "--manifest", f"{GOOD}/evidence.json", "--out", folds, *partitions()], f"{folds}/{os.path.basename(partitions()[0])}"),
         (["fold", "--verify", f"{room}/folded", GOOD], None),

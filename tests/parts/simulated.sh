@@ -29,6 +29,9 @@ counted 'labels' python3 -B tests/labels.py "$program" "$scratch/refuse.so"
 # folders that are drawn, and runs that stop
 counted 'swarms' python3 -B tests/swarm.py "$program" "$scratch/refuse.so"
 
+# all schedules of a few words
+counted 'every schedule' python3 -B tests/every.py "$program" "$scratch/refuse.so"
+
 # words for each kind of fault, and mistakes of who copies the logs
 counted 'kinds' python3 -B tests/kinds.py "$program"
 end

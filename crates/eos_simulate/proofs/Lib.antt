@@ -30,3 +30,4 @@ mod ShrunkParts
 mod ShrunkFiles
 pub mod Brought
 pub mod CollectedRuns
+mod EachSchedule

@@ -15,3 +15,4 @@ pub mod Schedules
 pub mod Leaving
 pub mod Parts
 pub mod Shrinking
+pub mod Every

@@ -4,3 +4,4 @@ pub mod Passing
 pub mod AddedLabels
 pub mod Judging
 pub mod AddedLines
+pub mod Walking

@@ -2,6 +2,7 @@
 
 ghost use Rattle.std.specs.Prelude.{◌≡◌, min, bytes_eq, not, ◌&&◌, true, false, None, IfSome, IfOk, option_map, unwrap_or};
 ghost use Rattle.eos_simulate.specs.Settings.{config_said, rates_said, can_bite, is_named, switches_said};
+ghost use Rattle.eos_simulate.specs.Every.{tiny};
 ghost use Rattle.eos_simulate.specs.steps.Heads.{head_of};
 ghost use Rattle.eos_machine.specs.Switching.{switch_name, any_on};
 
@@ -23,6 +24,17 @@ pub(crate) const SWITCHES: [Switch; 7] = [
     Switch::HideListing,
     Switch::IgnoreGeneration,
 ];
+
+/// One application, and one partition of each topic.
+const TINY: Config = Config {
+    applications: 1,
+    inputs: 1,
+    outputs: 1,
+    transaction_logs: 1,
+    segment_records: 16,
+    batch_records: 1,
+    chain: false,
+};
 
 /// What a simulated cluster does.
 #[derive(Drop)]
@@ -80,6 +92,29 @@ impl Course {
             is_shown: !words.no_tail && !words.stop_anywhere,
             stops: words.stop_anywhere,
             mishaps,
+        })
+    }
+
+    /// What is done where all schedules are run: these rules are broken from the first word on, and nothing shows them afterwards.
+    pub(crate) fn tiny(alloc: Global, names: &[&str]) -> Result<Course, SimulationFault>
+        ensures { IfOk result (λ course. course.config ≡ tiny) }
+    {
+        let Some(switches) = switches_named(names) else {
+            return Err(SimulationFault::Unfit("--switch", "no such rule"));
+        };
+        if let Some((what, why)) = unfit(TINY, switches, &[]) {
+            return Err(SimulationFault::Unfit(what, why));
+        }
+        Ok(Course {
+            config: TINY,
+            seed: 0,
+            words: 0,
+            rates: Rates::TODAY,
+            switches,
+            switch_at: Some(0),
+            is_shown: false,
+            stops: false,
+            mishaps: Vec::new(alloc),
         })
     }
 

@@ -28,31 +28,57 @@ pub fn simulate(
     ensures right { course.now.stops ≡ false → any_on course.now.switches ≡ false → IfOk result HasRightLogs }
     ensures faultless { course.now.stops ≡ false → any_on course.now.switches ≡ false → IfOk result HasNoFaultInLogs }
 {
-    let cluster = broken(alloc, course, history)?;
+    let script = Script::from_seed(alloc, course.seed, course.words)?;
+    simulate_script(alloc, course, &script, history)
+}
+
+/// The same by the words of this script.
+pub(crate) fn simulate_script(
+    alloc: Global,
+    course: &Course,
+    script: &Script,
+    history: &mut History,
+) -> Result<Evidence, SimulationFault>
+    ensures left { history.old ≡ [] → IfOk result (IsLeftBy course.now.config history.new) }
+    ensures broken { OnOk result (HasBroken course.now.switches history.new) }
+    ensures of_schedule { course.now.stops ≡ false → any_on course.now.switches ≡ false → IfOk result IsOfSchedule }
+    ensures right_logs { course.now.stops ≡ false → any_on course.now.switches ≡ false → IfOk result HasRightLogs }
+    ensures without_fault { course.now.stops ≡ false → any_on course.now.switches ≡ false → IfOk result HasNoFaultInLogs }
+{
+    let cluster = broken(alloc, course, script, history)?;
     let evidence = evidence_of(&cluster, course.stops)?;
     Ok(evidence)
 }
 
 /// A cluster that has done what the script says, and then has broken the rules whose switches are on.
 #[tactic(auto, using(crate::proofs::Deeds::kept_on))]
-fn broken(alloc: Global, course: &Course, history: &mut History) -> Result<Cluster, SimulationFault>
+fn broken(
+    alloc: Global,
+    course: &Course,
+    script: &Script,
+    history: &mut History,
+) -> Result<Cluster, SimulationFault>
     ensures kept { IfOk result (λ cluster. IsKept (new_course course.now.config) history.old cluster history.new) }
     ensures honest { any_on course.now.switches ≡ false → IfOk result (λ cluster. cluster.honest ≡ true) }
     ensures rules { OnOk result (HasBroken course.now.switches history.new) }
 {
-    let mut cluster = driven(alloc, course, history)?;
+    let mut cluster = driven(alloc, course, script, history)?;
     break_rules(alloc, &mut cluster, history, course)?;
     Ok(cluster)
 }
 
-fn driven(alloc: Global, course: &Course, history: &mut History) -> Result<Cluster, SimulationFault>
+fn driven(
+    alloc: Global,
+    course: &Course,
+    script: &Script,
+    history: &mut History,
+) -> Result<Cluster, SimulationFault>
     ensures kept { IfOk result (λ cluster. IsKept (new_course course.now.config) history.old cluster history.new) }
     ensures honest { any_on course.now.switches ≡ false → IfOk result (λ cluster. cluster.honest ≡ true) }
 {
     let mut cluster = new_cluster(alloc, course.config)?;
-    let script = Script::from_seed(alloc, course.seed, course.words)?;
     let settings = course.settings();
-    let unmet = run_kept(alloc, &mut cluster, history, &script, &settings)?;
+    let unmet = run_kept(alloc, &mut cluster, history, script, &settings)?;
     none_unmet(unmet)?;
     Ok(cluster)
 }

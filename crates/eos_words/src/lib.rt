@@ -17,6 +17,6 @@ mod subcommands;
 pub use command::{VERSION, read_words};
 pub use demands::Demands;
 pub use request::{
-    Answer, Check, Coordinator, Draw, Explain, Fold, Init, Listing, NoRequest, Request, Shrink,
-    Simulation, Sizes, Thousandths,
+    Answer, Check, Coordinator, Draw, Every, Explain, Fold, Init, Listing, NoRequest, Request,
+    Shrink, Simulation, Sizes, Thousandths,
 };

@@ -18,6 +18,8 @@ pub enum Request<'a> {
     Story(Explain<'a>),
     /// Write what a simulated cluster leaves.
     Simulate(Simulation<'a>),
+    /// Run a simulated cluster by all schedules of some lengths.
+    Every(Every<'a>),
     /// Make the history of a simulated cluster small.
     Shrink(Shrink<'a>),
     /// Write the manifest of a folder of copied logs.
@@ -170,6 +172,15 @@ pub struct Thousandths {
     pub restart_broker: Option<u64>,
     pub restart_coordinator: Option<u64>,
     pub abort: Option<u64>,
+}
+
+/// By which schedules a tiny simulated cluster is run.
+#[derive(Drop)]
+pub struct Every<'a> {
+    /// How many words the longest ones have, at most 8.
+    pub longest: u64,
+    /// The names of the rules that it breaks.
+    pub switches: Vec<&'a str>,
 }
 
 /// Which history is made small.

@@ -1,12 +1,25 @@
 //! How the words of `simulate` are read.
 
 use crate::command::read_all;
-use crate::request::{Request, Simulation, Sizes, Thousandths};
+use crate::request::{Every, Request, Simulation, Sizes, Thousandths};
 use clap::ArgMatches;
 use std::alloc::{AllocError, Global};
 
 /// What the words of `simulate` ask for.
 pub(crate) fn read_simulate<'a>(
+    alloc: Global,
+    inner: &ArgMatches<'a>,
+) -> Result<Option<Request<'a>>, AllocError> {
+    match inner.get_one::<u64>("every") {
+        Some(longest) => Ok(Some(Request::Every(Every {
+            longest,
+            switches: read_all(alloc, inner, "switch")?,
+        }))),
+        None => read_simulation(alloc, inner),
+    }
+}
+
+fn read_simulation<'a>(
     alloc: Global,
     inner: &ArgMatches<'a>,
 ) -> Result<Option<Request<'a>>, AllocError> {

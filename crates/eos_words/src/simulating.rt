@@ -41,7 +41,39 @@ const SCHEDULED: &[&str] = &[
 /// What each of several folders has of its own, or can't have.
 const SINGLE: &[&str] = &["history", "labels", "schedule"];
 
-static SIMULATE_ARGUMENTS: [Argument; 29] = [
+/// What is chosen already where all schedules are run, or isn't made.
+const CHOSEN: &[&str] = &[
+    "seed",
+    "events",
+    "applications",
+    "inputs",
+    "outputs",
+    "transaction-logs",
+    "segment-records",
+    "batch-records",
+    "chain",
+    "lose",
+    "repeat",
+    "abandon",
+    "members",
+    "restart-broker",
+    "restart-coordinator",
+    "abort",
+    "switch-at",
+    "no-tail",
+    "mishap",
+    "stop-anywhere",
+    "collect",
+    "history",
+    "labels",
+    "schedule",
+    "count",
+    "swarm",
+    "progress",
+    "folder",
+];
+
+static SIMULATE_ARGUMENTS: [Argument; 30] = [
     Argument {
         name: "seed",
         help: "What the script is drawn from, 0 to 2^64 - 1",
@@ -205,6 +237,12 @@ static SIMULATE_ARGUMENTS: [Argument; 29] = [
         form: Form::Flag,
     },
     Argument {
+        name: "every",
+        help: "Runs each schedule of at most N words, 0 to 8, and checks it",
+        presence: Presence::Without(CHOSEN),
+        form: Form::Valued("N", ValueParser::Unsigned(0, 8)),
+    },
+    Argument {
         name: "progress",
         help: "With --count, tells on standard error how many are made",
         presence: Presence::Optional,
@@ -327,6 +365,15 @@ standard error, and passed over. With --swarm each seed draws what isn't said:
 sizes, rates, --chain, switches and when they are on, and a mishap. The words
 of its line have all that was drawn, and so make it without --swarm.
 
+With --every no folder is made. A cluster of one application and one partition
+of each topic is run by each schedule of at most N words, and comes to rest. The
+words are eleven, one for each thing that a word can say (docs/SIMULATOR.md).
+Each run is judged as `check` would. `every schedules=S states=M accused=0`
+(status 0) says how many were run, and how many states they met, a state as
+often as it was met. The first run of which `check` says no ends it: what it
+says goes to standard error, and the history of that run to standard output, for
+--schedule (status 1). With --switch a rule is broken from the first word on.
+
 It shows what a fault looks like and that the checker finds it, and says nothing
 of real brokers.
 
@@ -338,4 +385,6 @@ Examples:
   eoscheck simulate --seed 7 --events 200 --history history.jsonl FOLDER
   eoscheck simulate --schedule history.jsonl FOLDER
   eoscheck simulate --count 100 --seed 1 --events 200 FOLDER >index.jsonl
-  eoscheck simulate --count 100 --swarm --seed 1 --events 200 FOLDER >index";
+  eoscheck simulate --count 100 --swarm --seed 1 --events 200 FOLDER >index
+  eoscheck simulate --every 4
+  eoscheck simulate --every 4 --switch lose-marker >history.jsonl";

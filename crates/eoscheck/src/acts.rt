@@ -8,7 +8,7 @@ use eos_commands::{
 use eos_drawing::draw_folder;
 use eos_ending::{Ending, STANDARD, end};
 use eos_explaining::explain_folder;
-use eos_simulate::{shrink_history, simulate_folder};
+use eos_simulate::{shrink_history, simulate_every, simulate_folder};
 use eos_words::{NoRequest, Request, read_words};
 use std::alloc::Global;
 use std::io::{ErrorKind, IsTerminal};
@@ -65,6 +65,7 @@ fn act(rt: &HostRuntime, threads: &(impl Threads + Wait + Sync), request: Reques
         Request::Explain { code } => explain_code(rt, code),
         Request::Story(words) => explain_folder(rt, threads, &words),
         Request::Simulate(words) => simulate_folder(rt, &words),
+        Request::Every(words) => simulate_every(rt, threads, &words),
         Request::Shrink(words) => shrink_history(rt, threads, &words),
         Request::Fold(words) => fold_partitions(rt, &words),
         Request::Verify(words) => verify_partitions(rt, words.folder, words.logs.as_slice()),
