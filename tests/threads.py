@@ -2,11 +2,12 @@
 """How many threads `check` starts, which only its speed depends on, and how many work at once: never more than there are workers.
 The caller does one share of each step itself, so a step in n shares starts n - 1, and with one worker none is started.
 
-With N workers, over P partitions, O of them of output topics, these are: those that draw pieces and read them, N, and the quick walk of the
-matching, N, which the shards repeat where it says no. Then M = N look at the lineage; but where the transaction log has a record or more for
-4 N (N - 1) of all, M = N - 1 do so while one reads it. The faults of single records are found in M shares or P, if these are fewer, the claims
-in as many shares as runs of O / M partitions, rounded up, make; where there are 4,096 claims or more, the sort of these, in at most M; and the
-source logs beside the claims, in at most M, which is one to three where there is one source partition.
+With N workers, over P partitions, O of them of output topics, these are: those that draw pieces and read them, N. The verdict is J = N workers'; but
+where there are three or more, and the offsets log has a record or more for 64 of all, it is J = N - 1 workers', and one tells the notes meanwhile. It
+has: the quick walk of the matching, J, which the shards repeat where it says no. Then M = J look at the lineage; but where the transaction log has a
+record or more for 4 J (J - 1) of all, M = J - 1 do so while one reads it. The faults of single records are found in M shares or P, if these are fewer,
+the claims in as many shares as runs of O / M partitions, rounded up, make; where there are 4,096 claims or more, the sort of these, in at most M; and
+the source logs beside the claims, in at most M, which is one to three where there is one source partition.
 
 Without `--workers` there are four. Who asks `check_lineage` and names no number gets at most 64: tests/unproved.py asks that.
 
@@ -74,15 +75,17 @@ def check_runs(program, library):
     with tempfile.TemporaryDirectory() as made:
         said = large(made)
         # A folder, its answer, its partitions, those of outputs, its workers, in how many shares at most the claims are sorted, and whether
-        # several look at the lineage while one reads the transaction log.
-        cases = [(SMALL, "yes transactions=1 inputs=2 outputs=3\n", 5, 2, workers, 1, True) for workers in (None, 1, 2, 4, 8, 64)]
+        # several look at the lineage while one reads the transaction log, and one tells the notes meanwhile.
+        cases = [(SMALL, "yes transactions=1 inputs=2 outputs=3\n", 5, 2, workers, 1, True) for workers in (None, 1, 2, 3, 4, 8, 64)]
         cases += [(made, said, OUTPUTS + 3, OUTPUTS, workers, workers, False) for workers in (1, 2, 3, 8)]
         for folder, answer, partitions, outputs, named, sorting, is_long in cases:
             workers = named or 4
-            beside = 1 if is_long and workers > 1 else 0
-            others = workers - beside
+            noting = 1 if is_long and workers > 2 else 0
+            judging = workers - noting
+            beside = 1 if is_long and judging > 1 else 0
+            others = judging - beside
             alone, sorts = min(others, partitions) - 1, min(others, sorting)
-            least = 2 * (workers - 1) + beside + alone + shares(outputs, others) - 1 + min(sorts - 1, 1)
+            least = workers - 1 + noting + judging - 1 + beside + alone + shares(outputs, others) - 1 + min(sorts - 1, 1)
             greatest = least + max(sorts - 2, 0) + min(others - 1, 2)
             words = ["--workers", str(named)] if named else []
             done, started, most = counted([program, "check", *words, folder], library)
