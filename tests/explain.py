@@ -13,8 +13,10 @@ refused folder, a number past the list, any number where it is a yes, and output
 import collections
 import os
 import re
+import shutil
 import subprocess
 import sys
+import tempfile
 
 import reference
 from mutants import Refused
@@ -304,6 +306,17 @@ def main():
         lines = run(program, "explain", os.path.join(HERE, "stories", name))[1].splitlines()[:10]
         for cause in causes:
             expect(any(re.search(cause, line) for line in lines), f"{name}: '{cause}' is not in {lines}")
+    with tempfile.TemporaryDirectory() as scratch:
+        # The group is right here, and the output's topic isn't: the story shows where the outputs went.
+        folder = os.path.join(scratch, "32")
+        shutil.copytree(os.path.join(HERE, "stories", "32-group-and-output-misspelled"), folder)
+        manifest = os.path.join(folder, "evidence.json")
+        with open(manifest, encoding="utf-8") as file:
+            text = file.read().replace('"biling"', '"billing"')
+        with open(manifest, "w", encoding="utf-8") as file:
+            file.write(text)
+        status, text, _ = run(program, "explain", folder)
+        expect(status == 1 and re.search(r"^ claim +payments-0:0 ", text, re.M), f"no claim in a topic that no application names: {status} {text}")
     folder = os.path.join(HERE, "stories", "34-dup-across-transactions")
     with open("/dev/full", "w", encoding="utf-8") as full:
         status, _, said = run(program, "explain", folder, stdout=full, stderr=subprocess.PIPE)
