@@ -24,7 +24,7 @@ SHOWN = {"lose-marker": 1, "no-bump": 1, "keep-duplicates": None, "no-fence": No
 UNFIT = ["swap-marker", "hide-listing", "ignore-generation"]
 BESIDE = [
     "--seed 1", "--events 1", "--applications 2", "--inputs 2", "--outputs 2", "--transaction-logs 2", "--segment-records 2", "--batch-records 2",
-    "--chain", *[f"--{it} 1" for it in RATES], "--switch-at 1", "--no-tail", "--mishap lost-output", "--stop-anywhere", "--collect forgotten@out-0",
+    "--chain", *[f"--{it} 1" for it in [*RATES, "time-out"]], "--switch-at 1", "--no-tail", "--mishap lost-output", "--stop-anywhere", "--collect forgotten@out-0",
     "--history h", "--labels l", "--schedule s", "--count 2", "--swarm", "--progress", "FOLDER",
 ]
 
@@ -44,10 +44,10 @@ def run(*words, **options):
 
 
 def rows_of_manual():
-    """How many things a word can say."""
+    """How many things a word can say at today's rates."""
     with open("docs/SIMULATOR.md", encoding="utf-8") as file:
         table = file.read().partition("| What a word says |")[2].partition("\n\n")[0]
-    return len(table.splitlines()) - 2
+    return sum("| 0 |" not in row for row in table.splitlines()) - 2
 
 
 def lines_of(seed, events, *rates):

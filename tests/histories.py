@@ -4,9 +4,9 @@
     tests/histories.py PROGRAM [REFUSE.SO]
 
 A folder is the same with a history and without one; its history's lines count up, and its totals are those that this file
-counts in the lines, the transactions those of `check`, and what was lost and repeated what the script's words say. Run again,
-each history gives the same folder and itself, byte for byte: of 200 seeds, and of 120 with random sizes, rates, switches and
-mishaps.
+counts in the lines, the transactions those of `check`, and what was lost and repeated what the script's words say. Nothing is
+taken of a session whose transaction has timed out. Run again, each history gives the same folder and itself, byte for byte: of
+200 seeds, and of 120 with random sizes, rates, switches and mishaps.
 Schedules written by hand have an answer worked out by hand. Lines that are cut, edited, broken or answered otherwise are told
 with their numbers, and nothing is left. With REFUSE.SO (tests/refuse.c, built) the allocations of a run are refused. Prints what
 is wrong, and as its last line 'N passed, N failed'.
@@ -26,7 +26,7 @@ import tempfile
 
 SWITCHES = ["keep-duplicates", "no-fence", "no-bump", "lose-marker", "swap-marker", "hide-listing", "ignore-generation"]
 MISHAPS = ["lost-output", "repeated-output", "wrong-count", "wrong-number", "foreign-source", "no-headers", "offset-deleted"]
-RATES = ["lose", "repeat", "abandon", "members", "restart-broker", "restart-coordinator"]
+RATES = ["lose", "repeat", "abandon", "members", "restart-broker", "restart-coordinator", "time-out"]
 SIZES = {"applications": (1, 8), "inputs": (1, 16), "outputs": (1, 16), "transaction-logs": (1, 4), "segment-records": (1, 40), "batch-records": (1, 8)}
 ARGUMENTS = {
     "feed": {"source"},
@@ -40,6 +40,7 @@ ARGUMENTS = {
     "broker-restart": {"topic", "partition"},
     "coordinator-restart": set(),
     "deliver": {"message"},
+    "time-out": {"application"},
 }
 REPLIES = {"done", "fenced", "out-of-order", "duplicate-kept", "wrong-state", "busy", "stale-generation", "epochs-spent", "unknown"}
 HEAD = {
@@ -206,6 +207,39 @@ def again(seed):
     return wrong and f"seed {seed} {words}: {wrong}"
 
 
+def fenced_after(lines):
+    """How many transactions timed out in a history, and which lines say that what their sessions sent was taken after that. An abort that a
+    session asks for is answered as one that was asked for again, and the session goes on."""
+    sessions, senders, fenced, wrong, count = {}, {}, set(), [], 0
+    for it in lines[1:-1]:
+        if it.get("reply") == "done":
+            if it["event"] == "start":
+                sessions[it["value"]] = it["application"]
+            elif it["event"] in ("produce", "commit", "end"):
+                senders[it["value"]] = it["session"]
+            elif it["event"] == "resume":
+                fenced.discard(it["session"])
+            elif it["event"] == "time-out":
+                count += 1
+                fenced |= {session for session, application in sessions.items() if application == it["application"]}
+            elif it["event"] == "deliver" and senders.get(it["message"]) in fenced:
+                wrong.append(it)
+    return count, wrong
+
+
+def time_outs():
+    """Nothing is taken of a session whose transaction has timed out; the rest is processed as ever, in transactions of which each that timed
+    out is one more."""
+    for seed in range(1, 21):
+        folder, history = f"{scratch}/time-outs-{seed}", f"{scratch}/time-outs-{seed}.jsonl"
+        answer = run("simulate", "--seed", seed, "--events", 600, "--time-out", 10 * seed, *(["--chain"] if seed % 2 else []), "--history", history, folder)
+        said = run("check", "--quiet", folder)
+        count, wrong = fenced_after(lines_of(history))
+        good = answer[0] == 0 and said[1].startswith("yes ") and not wrong and count > 0
+        expect(good, f"seed {seed}: {answer} {said}, {count} time-outs, {wrong}")
+        shutil.rmtree(folder)
+
+
 def schedule(*lines):
     """A file of these lines, which are objects or texts."""
     path = f"{scratch}/schedule"
@@ -319,6 +353,29 @@ def worked():
     answer = (0, "wrote partitions=6\nyes transactions=1 inputs=0 outputs=0\n", "")
     found = replayed({**HEAD, "segment_records": 1000}, *spent)
     expect(found == answer, f"epochs that are spent: {found}")
+    # a transaction times out: its end is fenced, and a new session processes the inputs
+    timed_out = [
+        *deeds[:9],
+        event(10, "time-out", application=1, reply="wrong-state"),
+        event(11, "time-out", application=2, reply="unknown"),
+        event(12, "time-out", application=0, reply="done", value=3),
+        event(13, "end", session=0, kind="commit", reply="done", value=6),
+        event(14, "deliver", message=6, reply="fenced"),
+        event(15, "start", application=0, reply="busy"),
+        *(event(16, "deliver", message=message) for message in (3, 4, 5)),
+        event(17, "time-out", application=0, reply="wrong-state"),
+        event(18, "start", application=0, reply="done", value=1),
+        event(19, "fetch", session=1, source=0, reply="done", value=0),
+        *(event(20, it["event"], **{k: v for k, v in it.items() if k not in ("number", "event", "value")}, value=7 + at) | {"session": 1} for at, it in enumerate(deeds[3:6])),
+        *(event(21, "deliver", message=message) for message in (7, 8, 9)),
+        event(22, "end", session=1, kind="commit", reply="done", value=10),
+        *(event(23, "deliver", message=message) for message in (10, 11, 12, 13)),
+        event(24, "deliver", message=14, reply="unknown"),
+    ]
+    answer = (0, "wrote partitions=6\nyes transactions=2 inputs=2 outputs=1\n", "")
+    told = {"events": len(timed_out), "transactions": 2, "lost": 0, "repeated": 0}
+    found = replayed(HEAD, *timed_out, told)
+    expect(found == answer, f"a time-out: {found}")
     # cut before the end: a transaction is open
     expect(replayed(HEAD, *deeds[:9]) == (2, "", "eoscheck: the cluster is not at rest\n"), "a schedule that is cut")
     # nothing happens
@@ -457,6 +514,7 @@ def main():
     made = found.count(None)
     expect(made > PLAIN + RANDOM / 2, f"only {made} of {len(found)} random scripts leave a folder")
     totals()
+    time_outs()
     worked()
     refused()
     files()

@@ -77,7 +77,7 @@ def event(words):
     if choice == 12:
         return f"broker:{number(words)}"
     if choice == 13:
-        return "coordinator"
+        return f"time-out:{number(words)}" if words.next() % 2 else "coordinator"
     return f"deliver:{words.next() % 12}"
 
 

@@ -2,6 +2,7 @@
 use Rattle.std.proofs.Common.{◌≡◌, ap, subst, sym, ℕ, ◌+◌, Bool, true, false, Option, Some, None, pos, negsuc, if◌then◌else◌}
 use Rattle.std.specs.Prelude.{slice_get, length}
 use Rattle.eos_batch.specs.declared.marker.Kind.{Kind}
+use Rattle.eos_batch.specs.declared.marker.Kind.TheVariants.{Abort}
 use Rattle.eos_machine.specs.declared.config.Config.{Config}
 use Rattle.eos_machine.specs.declared.state.Message.{Message}
 use Rattle.eos_machine.specs.declared.state.Message.TheVariants as messages
@@ -89,6 +90,7 @@ proper u c w events.Members = tt
 proper u c w (events.BrokerRestart t p) = either _ _ _ tt tt
 proper u c w events.CoordinatorRestart = tt
 proper u c w (events.Deliver n) = delivered u c w n (slice_get w.messages n)
+proper u c w (events.TimeOut a) = either _ _ _ tt (either _ _ _ tt (delivered u c w 0 (Some (messages.End a (coord_at w a).epoch Abort))))
 
 pub proper_of : (u : Switches) (c : Config) (w v : World) (e : Event) (r : Reply) → (v, r) ≡ happens_under u c w e → IsProper r
 proper_of u c w v e r h = subst IsProper (sym (ap (λ x. x.1) h)) (proper u c w e)

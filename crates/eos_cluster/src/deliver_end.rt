@@ -4,6 +4,8 @@ ghost use Rattle.std.specs.Prelude.{◌≡◌, ◌+◌, ◌-◌, ◌≤◌, ◌<
 ghost use Rattle.eos_machine.specs.declared.switches.Switches.{Switches};
 ghost use Rattle.eos_machine.specs.World.{coord_at, prepared, finished};
 ghost use Rattle.eos_machine.specs.Deliveries.{deliver_end};
+ghost use Rattle.eos_machine.specs.LogIndexes.{application_count};
+ghost use Rattle.eos_machine.specs.Machine.{time_out};
 ghost use Rattle.eos_cluster.specs.steps.Taken.{ended};
 
 use eos_batch::Kind;
@@ -61,6 +63,30 @@ pub(crate) fn deliver_end(
         end_by_markers(store, switches, application, kind, partitions)?;
     }
     Ok(Reply::Done(number))
+}
+
+/// The transaction of an application has been open longer than its time-out: the coordinator ends it, as its producer would that
+/// gives it up.
+#[tactic(auto, unfolding(eos_machine::specs::Answers::when))]
+pub(crate) fn time_out(
+    store: &mut Store,
+    switches: Switches,
+    application: usize,
+) -> Result<Reply, AllocError>
+    requires all { length store.old.world.coordinators ≡ application_count store.old.config }
+    requires epoch { (coord_at store.old.world application).epoch ≤ 32767 }
+    ensures ok { IfOk result (λ r. (store.new.world, r) ≡ time_out switches store.old.config store.old.world application) }
+    ensures err { OnErr result (store.new.world ≡ store.old.world) }
+    ensures config { store.new.config ≡ store.old.config }
+{
+    if application >= store.config().application_count() {
+        return Ok(Reply::Unknown);
+    }
+    if !is_ongoing(store.status(application)) {
+        return Ok(Reply::WrongState);
+    }
+    let epoch = store.epoch(application);
+    deliver_end(store, switches, application, epoch, Kind::Abort)
 }
 
 /// Decides and completes a transaction with no partitions.

@@ -4,6 +4,7 @@ ghost use Rattle.std.specs.Prelude.{◌≡◌, OnErr, IfOk};
 ghost use Rattle.eos_machine.specs.Machine.{restart_broker, happens_under};
 ghost use Rattle.eos_broker.specs.steps.Named.{Needs};
 
+use crate::deliver_end::time_out;
 use crate::{commit, deliver, end, feed, fetch, produce, restart, resume, start};
 use bytes::Bytes;
 use eos_broker::Store;
@@ -62,5 +63,6 @@ pub(crate) fn happen(
             Ok(Reply::Done(0))
         }
         Event::Deliver { message } => deliver(store, switches, message),
+        Event::TimeOut { application } => time_out(store, switches, application),
     }
 }

@@ -76,6 +76,7 @@ impl Actors {
             Happening::ChangeMembers => self.change_members(cluster, driver),
             Happening::RestartBroker => self.restart_broker(cluster, driver, rest),
             Happening::RestartCoordinator => self.restart_coordinator(cluster, driver),
+            Happening::TimeOut => self.time_out(cluster, driver, rest),
         }
     }
 
@@ -350,6 +351,22 @@ impl Actors {
         ensures { HasAsked cluster.old driver.old cluster.new driver.new }
     {
         driver.ask(cluster, Event::CoordinatorRestart)?;
+        self.network.may_have_more();
+        Ok(())
+    }
+
+    /// The transaction of an application, if one is open, has been so for too long.
+    fn time_out(
+        &mut self,
+        cluster: &mut Cluster,
+        driver: &mut Driver,
+        choice: u64,
+    ) -> Result<(), AllocError>
+        requires { driver.old.course ≡ cluster.old }
+        ensures { HasAsked cluster.old driver.old cluster.new driver.new }
+    {
+        let application = remainder(choice, self.applications);
+        driver.ask(cluster, Event::TimeOut { application })?;
         self.network.may_have_more();
         Ok(())
     }

@@ -24,6 +24,8 @@ pub(crate) enum Happening {
     ChangeMembers,
     RestartBroker,
     RestartCoordinator,
+    /// An application's transaction has been open too long.
+    TimeOut,
 }
 
 /// A word: what it says happens, and a number that says to whom.
@@ -51,6 +53,8 @@ pub struct Rates {
     pub restart_coordinator: Option<u16>,
     /// An application gives its transaction up, where it waits for no more than its end: 31.25.
     pub abort: Option<u16>,
+    /// The coordinator aborts an application's transaction, if it is open, as having been so for too long: 0.
+    pub time_out: Option<u16>,
 }
 
 /// A rate of a thousandth, where that of every word is 32,000: a number of which today's rates are whole ones.
@@ -73,6 +77,8 @@ const RESTART_COORDINATOR: u64 = 375;
 
 const ABORT: u64 = 1000;
 
+const TIME_OUT: u64 = 0;
+
 /// Of the words that say nothing of these rates, in 55: 6 feed, 30 work, 17 carry, 2 are an abandoned session's.
 const FEEDS: u64 = 6;
 
@@ -92,6 +98,7 @@ impl Rates {
         restart_broker: None,
         restart_coordinator: None,
         abort: None,
+        time_out: None,
     };
 }
 
@@ -124,6 +131,7 @@ impl Rates {
             + share(self.restart_broker, RESTART_BROKER)
             + share(self.restart_coordinator, RESTART_COORDINATOR)
             + share(self.abort, ABORT)
+            + share(self.time_out, TIME_OUT)
     }
 
     /// What a word says.
@@ -153,7 +161,7 @@ impl Rates {
     }
 
     /// What happens at these rates, each with its share.
-    fn shares(&self) -> [(Happening, u64); 7] {
+    fn shares(&self) -> [(Happening, u64); 8] {
         [
             (Happening::Lose, share(self.lose, LOSE)),
             (Happening::Repeat, share(self.repeat, REPEAT)),
@@ -168,6 +176,7 @@ impl Rates {
                 share(self.restart_coordinator, RESTART_COORDINATOR),
             ),
             (Happening::Work { aborts: true }, share(self.abort, ABORT)),
+            (Happening::TimeOut, share(self.time_out, TIME_OUT)),
         ]
     }
 }

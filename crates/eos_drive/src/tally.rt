@@ -160,6 +160,7 @@ impl Decisions {
             }
             // an open transaction is aborted; one that is ending already stays as it is
             (Event::Start { application }, Reply::Busy) => self.decide(*application),
+            (Event::TimeOut { application }, Reply::Done(_)) => self.decide(*application),
             (Event::End { session, kind: _ }, Reply::Done(message)) => {
                 self.ask(*session, message)
             }

@@ -14,7 +14,7 @@ use Rattle.eos_history_lines.proofs.OnceNamed.{InOrder, put_in_order, distinct_i
 use Rattle.eos_machine.specs.declared.config.Config.{Config}
 use Rattle.eos_machine.specs.declared.item.Claim.{Claim}
 use Rattle.eos_machine.specs.declared.event.Event.{Event}
-use Rattle.eos_machine.specs.declared.event.Event.TheVariants.{Feed, Start, Produce, Commit, End, Resume, Fetch, Members, BrokerRestart, CoordinatorRestart, Deliver}
+use Rattle.eos_machine.specs.declared.event.Event.TheVariants.{Feed, Start, Produce, Commit, End, Resume, Fetch, Members, BrokerRestart, CoordinatorRestart, Deliver, TimeOut}
 use Rattle.eos_machine.specs.declared.event.Reply.{Reply}
 use Rattle.eos_machine.specs.declared.event.Reply.TheVariants as replies
 use Rattle.eos_machine.specs.declared.switches.Switches.{Switches}
@@ -209,6 +209,7 @@ arguments_flat Members ms h = h
 arguments_flat (BrokerRestart topic partition) ms h = one _ partition _ (put_flat 2 _ _ ms (topic_flat 1 topic) h)
 arguments_flat CoordinatorRestart ms h = h
 arguments_flat (Deliver message) ms h = one _ message ms h
+arguments_flat (TimeOut application) ms h = one _ application ms h
 
 event_flat : (e : Event) (ms : JsonMembers) → FlatMembers 2 ms → FlatMembers 2 (with_event e ms)
 unfolding with_event

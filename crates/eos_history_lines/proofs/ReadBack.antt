@@ -13,7 +13,7 @@ use Rattle.serde_json.specs.View.{items_of}
 use Rattle.eos_batch.specs.declared.marker.Kind.TheVariants as kinds
 use Rattle.eos_machine.specs.declared.item.Claim.{Claim}
 use Rattle.eos_machine.specs.declared.event.Event.{Event}
-use Rattle.eos_machine.specs.declared.event.Event.TheVariants.{Feed, Start, Produce, Commit, End, Resume, Fetch, Members, BrokerRestart, CoordinatorRestart, Deliver}
+use Rattle.eos_machine.specs.declared.event.Event.TheVariants.{Feed, Start, Produce, Commit, End, Resume, Fetch, Members, BrokerRestart, CoordinatorRestart, Deliver, TimeOut}
 use Rattle.eos_machine.specs.declared.event.Reply.{Reply}
 use Rattle.eos_machine.specs.declared.event.Reply.TheVariants as replies
 use Rattle.eos_machine.specs.declared.switches.Switches.{Switches}
@@ -67,6 +67,7 @@ past_arguments q Members ms n = refl
 past_arguments q (BrokerRestart topic partition) ms n = other q _ _ _ n.partition ∙ other q _ _ ms n.topic
 past_arguments q CoordinatorRestart ms n = refl
 past_arguments q (Deliver message) ms n = other q _ _ ms n.message
+past_arguments q (TimeOut application) ms n = other q _ _ ms n.application
 
 past_event : (q : List ℕ) (e : Event) (ms : JsonMembers) → NoArgument q → bytes_eq q (codes "event") ≡ false → get_member q (with_event e ms) ≡ get_member q ms
 unfolding with_event
@@ -180,6 +181,7 @@ event_back (BrokerRestart topic partition) ms h =
     rw (get_member-put (codes "partition") (count partition) one, other (codes "topic") (codes "partition") (count partition) one refl, get_member-put (codes "topic") (topic_value topic) ms, h) refl
 event_back CoordinatorRestart ms h = refl
 event_back (Deliver message) ms h = rw (get_member-put (codes "message") (count message) ms) refl
+event_back (TimeOut application) ms h = rw (get_member-put (codes "application") (count application) ms) refl
 
 event_said : (e : Event) (ms : JsonMembers) → FitsEvent e → event_in (object (with_event e ms)) ≡ Some e
 unfolding with_event

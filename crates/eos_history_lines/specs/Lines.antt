@@ -8,7 +8,7 @@ use Rattle.serde_json.specs.View.{items_of}
 use Rattle.eos_machine.specs.declared.config.Config.{Config}
 use Rattle.eos_machine.specs.declared.item.Claim.{Claim}
 use Rattle.eos_machine.specs.declared.event.Event.{Event}
-use Rattle.eos_machine.specs.declared.event.Event.TheVariants.{Feed, Start, Produce, Commit, End, Resume, Fetch, Members, BrokerRestart, CoordinatorRestart, Deliver}
+use Rattle.eos_machine.specs.declared.event.Event.TheVariants.{Feed, Start, Produce, Commit, End, Resume, Fetch, Members, BrokerRestart, CoordinatorRestart, Deliver, TimeOut}
 use Rattle.eos_machine.specs.declared.event.Reply.{Reply}
 use Rattle.eos_machine.specs.declared.event.Reply.TheVariants as replies
 use Rattle.eos_machine.specs.declared.switches.Switches.{Switches}
@@ -98,6 +98,7 @@ with_arguments Members ms = ms
 with_arguments (BrokerRestart topic partition) ms = put (codes "partition") (count partition) (put (codes "topic") (topic_value topic) ms)
 with_arguments CoordinatorRestart ms = ms
 with_arguments (Deliver message) ms = put (codes "message") (count message) ms
+with_arguments (TimeOut application) ms = put (codes "application") (count application) ms
 
 unfoldable pub with_event : Event → JsonMembers → JsonMembers
 with_event event ms = with_arguments event (put (codes "event") (string (event_word event)) ms)

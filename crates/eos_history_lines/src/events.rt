@@ -4,7 +4,7 @@ ghost use Rattle.std.specs.Prelude.{◌≡◌, IfOk, OnOk};
 ghost use Rattle.serde_json.specs.View.{view};
 ghost use Rattle.eos_history_lines.specs.steps.Held.{held};
 ghost use Rattle.eos_history_lines.specs.Lines.{with_claim, claimed, offset_or_null, with_arguments, with_event};
-ghost use Rattle.eos_history_lines.specs.steps.Reading.{event_in, plain_event, event_of_session, feed_in, start_in, deliver_in, restart_in, produce_in, commit_in, end_in, fetch_in, claim_within, claim_in, offset_within};
+ghost use Rattle.eos_history_lines.specs.steps.Reading.{event_in, plain_event, event_of_session, feed_in, start_in, deliver_in, time_out_in, restart_in, produce_in, commit_in, end_in, fetch_in, claim_within, claim_in, offset_within};
 
 use crate::members::{count_in, integer_in, kind_called, size_in, small_in, text_in};
 use crate::object::Object;
@@ -64,6 +64,7 @@ fn put_arguments(alloc: Global, out: &mut Object, event: &Event) -> Result<(), A
         }
         Event::Members | Event::CoordinatorRestart => Ok(()),
         Event::Deliver { message } => out.put_count("message", *message),
+        Event::TimeOut { application } => out.put_size("application", *application),
     }
 }
 
@@ -144,6 +145,8 @@ fn read_plain_event(word: &str, value: &Value) -> Option<Event>
         Some(Event::Members)
     } else if word == "coordinator-restart" {
         Some(Event::CoordinatorRestart)
+    } else if word == "time-out" {
+        read_time_out(value)
     } else {
         read_event_of_session(word, value)
     }
@@ -168,6 +171,13 @@ fn read_delivery(value: &Value) -> Option<Event>
 {
     let message = count_in(value, "message")?;
     Some(Event::Deliver { message })
+}
+
+fn read_time_out(value: &Value) -> Option<Event>
+    ensures { result ≡ time_out_in (view value.now) }
+{
+    let application = size_in(value, "application")?;
+    Some(Event::TimeOut { application })
 }
 
 // ---- those of a session

@@ -109,7 +109,7 @@ fn look_at_event(value: &Value, word: &str) -> Result<(), Mistake> {
 fn arguments_of(word: &str) -> Option<&'static [(&'static str, Wanted)]> {
     let arguments: &'static [(&'static str, Wanted)] = match word {
         "feed" => &[("source", Wanted::Count)],
-        "start" => &[("application", Wanted::Count)],
+        "start" | "time-out" => &[("application", Wanted::Count)],
         "produce" => &[
             ("session", Wanted::Count),
             ("partition", Wanted::Count),

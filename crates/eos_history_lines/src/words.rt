@@ -41,6 +41,7 @@ pub(crate) fn event_word(event: &Event) -> &'static str
         Event::BrokerRestart { .. } => "broker-restart",
         Event::CoordinatorRestart => "coordinator-restart",
         Event::Deliver { .. } => "deliver",
+        Event::TimeOut { .. } => "time-out",
     }
 }
 

@@ -330,6 +330,11 @@ bounded_event n u c w events.CoordinatorRestart b =
       generation = d.generation;
     }
 bounded_event n u c w (events.Deliver m) b = let d = bounded_more n w b in bounded_deliver (n + 1) u c w m (slice_get w.messages m) d (message_at (n + 1) w.messages m d.messages)
+bounded_event n u c w (events.TimeOut a) b =
+    let d = bounded_more n w b in
+    bounded_if (n + 1) _ _ _ (λ t. d) (λ f1. bounded_if (n + 1) _ _ _ (λ t. d) (λ f2.
+    let low = limit_ongoing (coord_at w a).status (coord_at w a).epoch (not_false _ f2) (coord_within (n + 1) w a d) in
+    bounded_deliver (n + 1) u c w 0 (Some (messages.End a (coord_at w a).epoch Abort)) d low))
 
 pub bounded_opening : (c : Config) → Bounded 0 (opening c)
 bounded_opening c = record {

@@ -7,7 +7,7 @@ use Rattle.eos_machine.specs.World.{World}
 use Rattle.eos_machine.specs.Switching.{none}
 use Rattle.eos_machine.specs.Machine.{step, world_after, world_under}
 use Rattle.eos_machine.specs.SwitchedSchedules.{Breaks, all_under}
-use Rattle.eos_machine.specs.ShortSchedules.{Commits, Restarts, Fences, Fetches, Omits, Lists, Chains}
+use Rattle.eos_machine.specs.ShortSchedules.{Commits, Restarts, Fences, TimesOut, Fetches, Omits, Lists, Chains}
 
 pub commits : Commits
 unfolding when
@@ -20,6 +20,10 @@ restarts = record { replies = refl; output = refl; broker = refl }
 pub fences : Fences
 unfolding when
 fences = record { early = refl; late = refl; output = refl }
+
+pub times_out : TimesOut
+unfolding when
+times_out = record { replies = refl; output = refl; states = refl }
 
 pub fetches : Fetches
 unfolding when

@@ -5,6 +5,7 @@ use Rattle.std.proofs.lemmas.List.{get_or-set_same, get_or-set_other, get_or_pas
 use Rattle.std.proofs.lemmas.List.Elements.{filter_map-append}
 use Rattle.std.proofs.lemmas.Bool.{cases_lt}
 use Rattle.eos_batch.specs.declared.marker.Kind.{Kind}
+use Rattle.eos_batch.specs.declared.marker.Kind.TheVariants.{Abort}
 use Rattle.eos_machine.specs.LogIndexes.{Config, txn_index, input_index, listed}
 use Rattle.eos_machine.specs.Switching.{none}
 use Rattle.eos_machine.specs.World.{Claim, Ongoing, Entry, Item, Fed, State, Marker, Message, Session, World, Event, opening, coord_at, log_at, with_item, with_coord, written, prepared, finished}
@@ -135,6 +136,9 @@ few_event n c w events.Members h = few_more n w h
 few_event n c w (events.BrokerRestart t p) h = few_if (n + 1) _ _ _ (few_more n w h) (few_more n w h)
 few_event n c w events.CoordinatorRestart h = few_more n w h
 few_event n c w (events.Deliver m) h = few_deliver n c w m (slice_get w.messages m) h
+few_event n c w (events.TimeOut a) h =
+    let d = few_more n w h in
+    few_if (n + 1) _ _ _ d (few_if (n + 1) _ _ _ d (few_deliver n c w 0 (Some (messages.End a (coord_at w a).epoch Abort)) h))
 
 -- ---- any list of events
 

@@ -206,6 +206,9 @@ formed_event u c w events.CoordinatorRestart f = record {
   sessions = f.sessions;
 }
 formed_event u c w (events.Deliver n) f = formed_deliver u c w n (slice_get w.messages n) f (message_at c w.messages n f.messages)
+formed_event u c w (events.TimeOut a) f = formed_if c _ _ _ f (λ f1.
+    let l : a < application_count c = is_lt a (application_count c) (not_false _ f1) in
+    formed_if c _ _ _ f (λ f2. formed_deliver u c w 0 (Some (messages.End a (coord_at w a).epoch Abort)) f l))
 
 formed_counted : (c : Config) (n : ℕ) (x : Answer) → IsFormed c x.0 → IsFormed c (counted n x).0
 formed_counted c n x f = record { coordinators = f.coordinators; messages = f.messages; sessions = f.sessions }

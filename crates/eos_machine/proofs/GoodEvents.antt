@@ -563,6 +563,9 @@ good_event c w events.Members i g = good_like c w _ _ _ _ _ g g.due g.sessions
 good_event c w (events.BrokerRestart t p) i g = good_if c _ _ _ (λ h. g) (λ h. g)
 good_event c w events.CoordinatorRestart i g = good_restarted c w g
 good_event c w (events.Deliver n) i g = good_deliver c w n (slice_get w.messages n) i g (due_at c w w.messages n g.due)
+good_event c w (events.TimeOut a) i g = good_if c _ _ _ (λ h. g) (λ f.
+    let r : InRange c w a 0 = ranges c w a 0 i g (is_lt a (application_count c) (not_false _ f)) (omega arith) in
+    good_if c _ _ _ (λ h. g) (λ h. good_end c w a (coord_at w a).epoch Abort g r))
 
 good_counted : (c : Config) (n : ℕ) (x : Answer) → Good c x.0 → Good c (counted n x).0
 good_counted c n x g = good_like c x.0 _ _ _ _ _ g g.due g.sessions

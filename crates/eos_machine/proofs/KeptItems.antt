@@ -70,6 +70,7 @@ TopicIs P events.Members = ⊤
 TopicIs P (events.BrokerRestart t p) = ⊤
 TopicIs P events.CoordinatorRestart = ⊤
 TopicIs P (events.Deliver n) = ⊤
+TopicIs P (events.TimeOut a) = ⊤
 
 -- ---- parts
 
@@ -330,3 +331,8 @@ kept_event P c k u w events.CoordinatorRestart n f t h = record {
   count = omega (arith, h.count);
 }
 kept_event P c k u w (events.Deliver m) n f t h = kept_deliver P c k u w m (slice_get w.messages m) n h (message_at c w.messages m f.messages) (kept_at P c w.messages m h.messages)
+kept_event P c k u w (events.TimeOut a) n f t h =
+    let d = kept_more P c k (k + 2) w (omega arith) h in
+    kept_if P c (k + 2) _ _ _ d (λ f1.
+    let l : a < application_count c = is_lt a (application_count c) (not_false _ f1) in
+    kept_if P c (k + 2) _ _ _ d (λ f2. kept_deliver P c k u w 0 (Some (messages.End a (coord_at w a).epoch Abort)) n h l tt))

@@ -9,9 +9,9 @@ use Rattle.eos_machine.specs.World.{World, Status, Empty, Ongoing, Prepare, Comp
 use Rattle.eos_machine.specs.declared.event.Event.TheVariants as events
 use Rattle.eos_machine.specs.Logs.{entries_of, last_state}
 use Rattle.eos_machine.specs.Tests.{is_ongoing, is_prepare}
-use Rattle.eos_machine.specs.Answers.{Answer, when, Done, Busy, EpochsSpent, Unknown, Full}
+use Rattle.eos_machine.specs.Answers.{Answer, when, Done, WrongState, Busy, EpochsSpent, Unknown, Full}
 use Rattle.eos_machine.specs.Sessions.{last_epoch, new_session, produce, commit, end_session, resume, fetch}
-use Rattle.eos_machine.specs.Deliveries.{deliver}
+use Rattle.eos_machine.specs.Deliveries.{deliver_end, deliver}
 
 abbrev pub feed : Config → World → ℕ → Answer
 feed c w p =
@@ -32,6 +32,15 @@ start u c w a =
     when (is_prepare (coord_at w a).status) (w, Busy) (
     when (is_ongoing (coord_at w a).status) (prepared u c w a Abort (coord_at w a).partitions, Busy) (
     start_session u c w a (if (coord_at w a).started then (coord_at w a).epoch + 1 else 0))))
+
+-- ---- a transaction is open longer than its time-out (KIP-98, "Expiring Transactions"; KIP-890)
+
+-- the coordinator ends it as its producer would that gives it up: at the next epoch, so that this producer is fenced
+abbrev pub time_out : Switches → Config → World → ℕ → Answer
+time_out u c w a =
+    when (not (nat_lt a (application_count c))) (w, Unknown) (
+    when (not (is_ongoing (coord_at w a).status)) (w, WrongState) (
+    deliver_end u c w a (coord_at w a).epoch Abort))
 
 -- ---- the coordinator restarts: states are read from the log, and the end markers of prepared ones are queued again
 
@@ -72,6 +81,7 @@ happens_under u c w events.Members = (with_generation w (w.generation + 1), Done
 happens_under u c w (events.BrokerRestart t p) = restart_broker c w t p
 happens_under u c w events.CoordinatorRestart = (restarted c w, Done 0)
 happens_under u c w (events.Deliver n) = deliver u c w n (slice_get w.messages n)
+happens_under u c w (events.TimeOut a) = time_out u c w a
 
 -- an event was taken
 abbrev pub counted : ℕ → Answer → Answer

@@ -65,6 +65,23 @@ pub record Fences : Type 0 where
   pub late : Answers single aborting (Done 0 ∷ Done 0 ∷ Done 0 ∷ Busy ∷ Done 1 ∷ Done 1 ∷ Fenced ∷ [])
   pub output : log_at (after single aborting) 3 ≡ Output 0 0 0 claim 1 2 ∷ Marker 0 1 Abort 4 ∷ []
 
+-- a transaction times out: its producer is fenced, and the next session begins above the epoch of the abort
+abbrev pub timing_out : List Event
+timing_out =
+    events.Start 0 ∷ events.TimeOut 0 ∷ events.Produce 0 0 claim ∷ events.Produce 0 0 claim ∷ events.Deliver 0 ∷ events.TimeOut 0 ∷ events.Deliver 1 ∷ events.Start 0 ∷ events.Deliver 2
+    ∷ events.TimeOut 0 ∷ events.TimeOut 1 ∷ events.End 0 Abort ∷ events.Start 0 ∷ []
+
+pub record TimesOut : Type 0 where
+  pub replies : Answers single timing_out
+      (Done 0 ∷ WrongState ∷ Done 0 ∷ Done 1 ∷ Done 0 ∷ Done 2 ∷ Fenced ∷ Busy ∷ Done 1
+      ∷ WrongState ∷ Unknown ∷ Done 3 ∷ Done 1 ∷ [])
+  pub output : log_at (after single timing_out) 3 ≡ Output 0 0 0 claim 2 4 ∷ Marker 0 1 Abort 8 ∷ []
+  pub states : log_at (after single timing_out) 1 ≡ State 0 (record { status = Empty; epoch = 0; partitions = [] }) 0
+      ∷ State 0 (record { status = Ongoing; epoch = 0; partitions = 3 ∷ [] }) 4
+      ∷ State 0 (record { status = Prepare Abort; epoch = 1; partitions = 3 ∷ [] }) 5
+      ∷ State 0 (record { status = Complete Abort; epoch = 1; partitions = [] }) 8
+      ∷ State 0 (record { status = Empty; epoch = 2; partitions = [] }) 12 ∷ []
+
 -- an offset is committed: while its transaction is open nobody fetches it, and another generation of the group never does
 abbrev pub fetching : List Event
 fetching =

@@ -57,6 +57,11 @@ pub enum Event {
     Deliver {
         message: u64,
     },
+    /// The transaction of an application has been open longer than its time-out: the coordinator aborts it (KIP-98,
+    /// "Expiring Transactions").
+    TimeOut {
+        application: usize,
+    },
 }
 
 /// What a cluster answers.

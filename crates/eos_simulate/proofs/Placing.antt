@@ -141,6 +141,7 @@ placed_event c w events.Members h = h
 placed_event c w (events.BrokerRestart t p) h = placed_if c _ _ _ h h
 placed_event c w events.CoordinatorRestart h = h
 placed_event c w (events.Deliver m) h = placed_deliver c w m (slice_get w.messages m) h
+placed_event c w (events.TimeOut a) h = placed_if c _ _ _ h (placed_if c _ _ _ h (placed_deliver c w 0 (Some (messages.End a (coord_at w a).epoch Abort)) h))
 
 pub placed_run : (c : Config) (w : World) (es : List Event) → Placed c w → Placed c (world_after c w es)
 placed_run c w [] h = h

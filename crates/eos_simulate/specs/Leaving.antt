@@ -24,6 +24,7 @@ SendsBytes events.Members = ⊤
 SendsBytes (events.BrokerRestart t p) = ⊤
 SendsBytes events.CoordinatorRestart = ⊤
 SendsBytes (events.Deliver n) = ⊤
+SendsBytes (events.TimeOut a) = ⊤
 
 -- there is evidence of these logs
 pub record LeavesEvidence (c : Config) (w : World) : Type 0 where

@@ -35,6 +35,7 @@ rates_said r = record {
   restart_broker = rate_said r.restart_broker;
   restart_coordinator = rate_said r.restart_coordinator;
   abort = rate_said r.abort;
+  time_out = rate_said r.time_out;
 }
 
 -- a cluster of these sizes has something in which this rule is broken

@@ -69,6 +69,7 @@ each_rate_drawn given ws = record {
   restart_broker = rate_drawn given.restart_broker (word_at ws 11);
   restart_coordinator = rate_drawn given.restart_coordinator (word_at ws 12);
   abort = rate_drawn given.abort (word_at ws 13);
+  time_out = given.time_out;
 }
 
 -- only rates that fit are drawn

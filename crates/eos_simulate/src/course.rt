@@ -240,6 +240,7 @@ pub(crate) fn rates_of(words: &Thousandths) -> Rates
         restart_broker: rate_of(words.restart_broker),
         restart_coordinator: rate_of(words.restart_coordinator),
         abort: rate_of(words.abort),
+        time_out: rate_of(words.time_out),
     }
 }
 

@@ -36,6 +36,7 @@ pub fn sends_bytes(event: &Event)
         Event::BrokerRestart { .. } => {}
         Event::CoordinatorRestart => {}
         Event::Deliver { .. } => {}
+        Event::TimeOut { .. } => {}
     }
 }
 

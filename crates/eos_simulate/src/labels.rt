@@ -149,7 +149,8 @@ fn push_event(
         | Event::Fetch { .. }
         | Event::Members
         | Event::BrokerRestart { .. }
-        | Event::CoordinatorRestart => Ok(()),
+        | Event::CoordinatorRestart
+        | Event::TimeOut { .. } => Ok(()),
     }
 }
 

@@ -121,7 +121,8 @@ impl Names {
             | Event::Start { .. }
             | Event::Members
             | Event::BrokerRestart { .. }
-            | Event::CoordinatorRestart => Ok(Some(event.clone()?)),
+            | Event::CoordinatorRestart
+            | Event::TimeOut { .. } => Ok(Some(event.clone()?)),
         }
     }
 
@@ -154,7 +155,8 @@ impl Names {
             | Event::Members
             | Event::BrokerRestart { .. }
             | Event::CoordinatorRestart
-            | Event::Deliver { .. } => Ok(None),
+            | Event::Deliver { .. }
+            | Event::TimeOut { .. } => Ok(None),
         }
     }
 

@@ -74,7 +74,8 @@ fn push_rates(alloc: Global, said: &mut Vec<Value>, rates: Thousandths) -> Resul
         "--restart-coordinator",
         rates.restart_coordinator,
     )?;
-    push_number(alloc, said, "--abort", rates.abort)
+    push_number(alloc, said, "--abort", rates.abort)?;
+    push_number(alloc, said, "--time-out", rates.time_out)
 }
 
 fn push_number(

@@ -95,7 +95,9 @@ impl Side {
             | Event::Fetch { .. }
             | Event::Members
             | Event::BrokerRestart { .. } => {}
-            Event::CoordinatorRestart | Event::Deliver { .. } => self.count_markers(),
+            Event::CoordinatorRestart | Event::Deliver { .. } | Event::TimeOut { .. } => {
+                self.count_markers();
+            }
         }
     }
 

@@ -88,5 +88,6 @@ fn read_rates(inner: &ArgMatches<'_>) -> Thousandths {
         restart_broker: inner.get_one::<u64>("restart-broker"),
         restart_coordinator: inner.get_one::<u64>("restart-coordinator"),
         abort: inner.get_one::<u64>("abort"),
+        time_out: inner.get_one::<u64>("time-out"),
     }
 }

@@ -31,6 +31,7 @@ const SCHEDULED: &[&str] = &[
     "restart-broker",
     "restart-coordinator",
     "abort",
+    "time-out",
     "switch",
     "switch-at",
     "no-tail",
@@ -59,6 +60,7 @@ const CHOSEN: &[&str] = &[
     "restart-broker",
     "restart-coordinator",
     "abort",
+    "time-out",
     "switch-at",
     "no-tail",
     "mishap",
@@ -73,7 +75,7 @@ const CHOSEN: &[&str] = &[
     "folder",
 ];
 
-static SIMULATE_ARGUMENTS: [Argument; 30] = [
+static SIMULATE_ARGUMENTS: [Argument; 31] = [
     Argument {
         name: "seed",
         help: "What the script is drawn from, 0 to 2^64 - 1",
@@ -167,6 +169,12 @@ static SIMULATE_ARGUMENTS: [Argument; 30] = [
     Argument {
         name: "abort",
         help: "Words, of 1000, by which a transaction is given up",
+        presence: Presence::Optional,
+        form: Form::Valued("RATE", ValueParser::Unsigned(0, 1000)),
+    },
+    Argument {
+        name: "time-out",
+        help: "Words, of 1000, by which a transaction times out",
         presence: Presence::Optional,
         form: Form::Valued("RATE", ValueParser::Unsigned(0, 1000)),
     },
@@ -280,7 +288,9 @@ that all of it was written; `eoscheck check FOLDER` then says yes, and
 
 A RATE is how many of 1000 words say it. One that is not given is as ever: lose
 15.625, repeat 62.5, abandon 7.8125, members 3.90625, restart-broker 7.8125,
-restart-coordinator 11.71875, abort 31.25. All seven come to 1000 at most.
+restart-coordinator 11.71875, abort 31.25, time-out 0. All eight come to 1000 at
+most. At a time-out the coordinator aborts an application's open transaction,
+and its producer is fenced.
 
 With --chain there is a second group, of one application: it reads what stands
 committed in `out`, and writes `fin`, which has as many partitions. The manifest

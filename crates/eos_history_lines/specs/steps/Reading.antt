@@ -6,7 +6,7 @@ use Rattle.eos_batch.specs.declared.marker.Kind.{Kind}
 use Rattle.eos_batch.specs.declared.marker.Kind.TheVariants as kinds
 use Rattle.eos_machine.specs.declared.item.Claim.{Claim}
 use Rattle.eos_machine.specs.declared.event.Event.{Event}
-use Rattle.eos_machine.specs.declared.event.Event.TheVariants.{Feed, Start, Produce, Commit, End, Resume, Fetch, Members, BrokerRestart, CoordinatorRestart, Deliver}
+use Rattle.eos_machine.specs.declared.event.Event.TheVariants.{Feed, Start, Produce, Commit, End, Resume, Fetch, Members, BrokerRestart, CoordinatorRestart, Deliver, TimeOut}
 use Rattle.eos_machine.specs.declared.event.Reply.{Reply}
 use Rattle.eos_machine.specs.declared.event.Reply.TheVariants as replies
 use Rattle.eos_machine.specs.declared.switches.Switches.{Switches}
@@ -82,6 +82,9 @@ start_in d = option_map (λ application. Start application) (count_in (codes "ap
 abbrev pub deliver_in : Data → Option Event
 deliver_in d = option_map (λ message. Deliver message) (count_in (codes "message") d)
 
+abbrev pub time_out_in : Data → Option Event
+time_out_in d = option_map (λ application. TimeOut application) (count_in (codes "application") d)
+
 abbrev pub commit_in : ℕ → Data → Option Event
 commit_in session d = option_and_then (λ source. option_map (λ offset. Commit session source offset) (offset_within d)) (count_in (codes "source") d)
 
@@ -109,7 +112,8 @@ plain_event word d =
     else (if bytes_eq word (codes "deliver") then deliver_in d
     else (if bytes_eq word (codes "members") then Some Members
     else (if bytes_eq word (codes "coordinator-restart") then Some CoordinatorRestart
-    else event_of_session word d))))
+    else (if bytes_eq word (codes "time-out") then time_out_in d
+    else event_of_session word d)))))
 
 abbrev pub event_called : List ℕ → Data → Option Event
 event_called word d =

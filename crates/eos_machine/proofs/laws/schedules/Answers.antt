@@ -1,4 +1,4 @@
-use Rattle.eos_machine.proofs.Computed.{commits, restarts, fences, fetches, omits, lists, chains}
+use Rattle.eos_machine.proofs.Computed.{commits, restarts, fences, times_out, fetches, omits, lists, chains}
 use Rattle.eos_machine.proofs.laws.schedules.Goals as goal
 
 pub returns-clause-commits : goal.returns-clause-commits
@@ -9,6 +9,9 @@ returns-clause-restarts c = restarts
 
 pub returns-clause-fences : goal.returns-clause-fences
 returns-clause-fences c = fences
+
+pub returns-clause-times_out : goal.returns-clause-times_out
+returns-clause-times_out c = times_out
 
 pub returns-clause-fetches : goal.returns-clause-fetches
 returns-clause-fetches c = fetches
