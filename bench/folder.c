@@ -10,7 +10,8 @@
  * producer id. A segment has at most SEGMENT bytes (64 MiB), or one batch. FOLDER must not exist; it grows to at least
  * MEBIBYTES. SEED picks the values (as in segment.c), the number of outputs and their partitions.
  *
- * The first line printed is the verdict, the second says how many bytes, records and segments were written.
+ * The first line printed is the verdict, the second says how many bytes, records and segments were written, and the third how many pairs
+ * there are of a partition and a producer id that wrote to it.
  */
 #include <inttypes.h>
 #include <stdint.h>
@@ -234,7 +235,7 @@ static void add_state(struct batch *batch, const char *id, int64_t producer, int
 
 static struct log in[PARTS], out[PARTS], offsets = {"__consumer_offsets", 0, 0, 0, NULL}, states = {"__transaction_state", 0, 0, 0, NULL};
 static struct batch single, input, pending[PARTS];
-static uint64_t done[PARTS], inputs, outputs, transactions, seed;
+static uint64_t done[PARTS], inputs, outputs, transactions, pairs, seed;
 
 struct instance {
     char id[20];
@@ -242,6 +243,8 @@ struct instance {
     int epoch;
     struct set outs;
     uint32_t sequences[PARTS];
+    /* The producer id with which it last wrote to each partition of `out`. */
+    int64_t writers[PARTS];
 };
 
 static void write_state(const struct instance *a, int epoch, int status, const struct set *outs) {
@@ -254,6 +257,8 @@ static void flush(struct instance *a, int to) {
     if (count == 0) return;
     append(&out[to], &pending[to], TRANSACTIONAL, a->producer, a->epoch, a->sequences[to]);
     a->sequences[to] += count;
+    pairs += a->writers[to] != a->producer;
+    a->writers[to] = a->producer;
     a->outs.count += !a->outs.has[to];
     a->outs.has[to] = 1;
 }
@@ -343,6 +348,7 @@ int main(int argc, char **argv) {
             if (a->producer < 0 || a->epoch >= rotate) {
                 a->producer = next_producer++;
                 a->epoch = 0;
+                pairs++; /* with the partition of the offsets */
                 write_state(a, 0, EMPTY, &none);
             }
             feed(i % PARTS, done[i % PARTS] + count);
@@ -353,5 +359,6 @@ int main(int argc, char **argv) {
     close_all();
     printf("yes transactions=%" PRIu64 " inputs=%" PRIu64 " outputs=%" PRIu64 "\n", transactions, inputs, outputs);
     printf("bytes=%" PRIu64 " records=%" PRIu64 " segments=%" PRIu64 "\n", bytes, records, segments);
+    printf("pairs=%" PRIu64 "\n", pairs);
     return 0;
 }
