@@ -180,6 +180,8 @@ HOSTILE = [
     ("Roles", "roles -1", front(255) + b"\0\0"),
     ("Number", "a longer spelling of a text's length", front(topic=LONG + b"in\0") + b"\0\0"),
     ("Number", "a longer spelling of 0", front(partition=b"\x80\0") + b"\0\0"),
+    ("Number", "a longer spelling in three bytes", front(partition=b"\xff\xff\0") + b"\0\0"),
+    ("Number", "a longer spelling in four bytes", front(base=b"\xff\xff\xff\0") + b"\0\0"),
     ("Number", "a longer spelling in ten bytes", front(base=b"\x80" * 9 + b"\0") + b"\0\0"),
     ("Number", "a number without an end", front(base=ENDLESS) + b"\0\0"),
     ("Number", "a number of 65 bits", front(size=TOO_GREAT) + b"\0\0"),

@@ -98,6 +98,15 @@ walked_off begin heads epochs i next at last lt step w = some (drop i heads) ref
     some [] here n = absurd (omega (arith, lt, n))
     some (h ∷ hs) here n = sym (step h hs) ∙ (ap (λ (xs : List FoldHead). are_entries next last xs (drop at epochs)) (sym here) ∙ w.same)
 
+none_left : (next : ℕ) (last : Option ℤ) (hs : List FoldHead) → is_some last ≡ true → are_entries next last hs [] ≡ true
+none_left next last [] some = refl
+none_left next last (h ∷ hs) some = rw some (none_left (next + h.count) last hs some)
+
+pub walked_done : (begin : ℕ) (heads : List FoldHead) (epochs : List EpochEntry) (i next at : ℕ) (last : Option ℤ) → is_some last ≡ true → at ≡ length epochs → Walked begin heads epochs i next at last → true ≡ are_entries begin None heads epochs
+walked_done begin heads epochs i next at last some is w =
+    let none : drop at epochs ≡ [] = drop_of_length-le epochs (omega (arith, is)) in
+    sym (none_left next last (drop i heads) some) ∙ (ap (λ (es : List EpochEntry). are_entries next last (drop i heads) es) (sym none) ∙ w.same)
+
 pub walked_all : (begin : ℕ) (heads : List FoldHead) (epochs : List EpochEntry) (i next at : ℕ) (last : Option ℤ) → length heads ≤ i → Walked begin heads epochs i next at last → eqb at (length epochs) ≡ are_entries begin None heads epochs
 walked_all begin heads epochs i next at last le w =
     let none : drop i heads ≡ [] = drop_of_length-le heads le in

@@ -36,6 +36,7 @@ pub(crate) struct ClaimNumbers {
 
 // ---- claims
 
+#[inline(always)]
 #[tactic(auto, unfolding(crate::specs::Records::numbers_from))]
 fn read_numbers(rest: &mut Cursor<'_>) -> Result<ClaimNumbers, FoldFault>
     ensures { Gives result rest.new (numbers_from rest.old) }

@@ -46,10 +46,12 @@ pub(crate) fn read_many<T: Entry>(
 {
     let room = count.min(rest.left() as u64) as usize;
     let mut entries = Listed::new(Vec::with_capacity(alloc, room)?);
+    let mut here = rest.fork();
     for _ in 0..count {
-        let entry = T::read(alloc, rest)?;
+        let entry = T::read(alloc, &mut here)?;
         entries.push(entry)?;
     }
+    *rest = here;
     Ok(entries)
 }
 

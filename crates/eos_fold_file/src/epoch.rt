@@ -62,7 +62,7 @@ fn pass(epochs: &[EpochEntry], reached: Reached, next: u64) -> Option<Reached>
 }
 
 /// Whether the batches of a front that begins here have these entries, as far as their heads tell.
-#[tactic(auto, using(crate::proofs::EpochLists::next_fits, crate::proofs::EpochLists::walked_none, crate::proofs::EpochLists::walked_on, crate::proofs::EpochLists::walked_off, crate::proofs::EpochLists::walked_all))]
+#[tactic(auto, using(crate::proofs::EpochLists::next_fits, crate::proofs::EpochLists::walked_none, crate::proofs::EpochLists::walked_on, crate::proofs::EpochLists::walked_off, crate::proofs::EpochLists::walked_done, crate::proofs::EpochLists::walked_all))]
 pub(crate) fn are_entries(begin: u64, heads: &[FoldHead], epochs: &[EpochEntry]) -> bool
     requires { begin + record_count heads.now ≤ 2 ^ 63 }
     ensures { result ≡ are_entries begin None heads.now epochs.now }
@@ -70,6 +70,9 @@ pub(crate) fn are_entries(begin: u64, heads: &[FoldHead], epochs: &[EpochEntry])
     let mut next = begin;
     let mut reached = Reached { last: None, at: 0 };
     for head in heads {
+        if reached.last.is_some() && reached.at == epochs.len() {
+            return true;
+        }
         let Some(passed) = pass(epochs, reached, next) else {
             return false;
         };

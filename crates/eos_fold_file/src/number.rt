@@ -10,10 +10,12 @@
 //! The source of VARLONG is Kafka's protocol guide. A number in a longer spelling than its shortest is refused, so a value has one
 //! text only.
 
-ghost use Rattle.std.specs.Prelude.{◌≡◌, ◌++◌, ◌∷◌, ◌≤ℤ◌, ◌≤◌, [], length, drop, Ok, OnOk, IfOk, IfSome};
+ghost use Rattle.std.specs.Prelude.{◌≡◌, ◌++◌, ◌∷◌, ◌≤ℤ◌, ◌≤◌, [], length, drop, Ok, OnOk, IfOk, IfErr, IfSome};
+ghost use Rattle.eos_wire.specs.Varint.{unzigzag};
 ghost use Rattle.eos_wire.specs.Writing.{varlong_of};
 ghost use Rattle.eos_fold_file.specs.Numbers.{u64_text, bytes_text, is_shortest, kind_from, number_from, within_from, i32_from, i16_from, u64_from, u32_from, bytes_from};
 ghost use Rattle.eos_fold_file.specs.Legal.{IsText};
+ghost use Rattle.eos_fold_file.specs.Faults.{Fails};
 ghost use Rattle.eos_fold_file.specs.steps.Faults.{Gives};
 
 use crate::fault::FoldFault;
@@ -25,10 +27,18 @@ use std::alloc::AllocError;
 const MOST: usize = 10;
 
 /// A kind: which of several forms follows.
+#[inline(always)]
+#[tactic(auto, using(crate::proofs::SmallNumbers::no_kind, crate::proofs::SmallNumbers::kind_read))]
 pub(crate) fn read_kind(rest: &mut Cursor<'_>) -> Result<i8, FoldFault>
     ensures { Gives result rest.new (kind_from rest.old) }
 {
-    rest.i8().ok_or(FoldFault::Short)
+    let bytes = rest.rest();
+    if bytes.is_empty() {
+        return Err(FoldFault::Short);
+    }
+    let kind = bytes[0].cast_signed();
+    rest.take(1);
+    Ok(kind)
 }
 
 /// Whether a number's spelling of so many bytes at the front is its shortest.
@@ -39,34 +49,52 @@ fn is_shortest(bytes: &[u8], len: usize) -> bool
     len == 1 || bytes[len - 1] != 0
 }
 
-/// The number at the front, where it takes one byte. Most do, and need no loop.
-#[inline(always)]
-#[tactic(auto, using(crate::proofs::SmallNumbers::small_read))]
-fn small(bytes: &[u8]) -> Option<i64>
-    ensures read { IfSome result (λ number. number_from bytes.now ≡ Ok (number, drop 1 bytes.now)) }
-    ensures within { IfSome result (λ number. 1 ≤ length bytes.now) }
+fn unzigzag(n: u32) -> i64
+    ensures { result ≡ unzigzag n }
 {
-    if bytes.is_empty() {
-        return None;
-    }
-    let first = bytes[0];
-    if first >= 128 {
-        return None;
-    }
-    let half = i64::from(first / 2);
-    Some(if first % 2 == 0 { half } else { -half - 1 })
+    let half = i64::from(n / 2);
+    if n % 2 == 0 { half } else { -half - 1 }
 }
 
-/// A number of 64 bits.
-#[tactic(auto, unfolding(crate::specs::Numbers::number_from))]
-pub(crate) fn read_number(rest: &mut Cursor<'_>) -> Result<i64, FoldFault>
-    ensures { Gives result rest.new (number_from rest.old) }
+/// The number at the front, and how many bytes it takes, where these are at most three. Most are, and need no loop.
+#[inline(always)]
+#[tactic(auto, using(crate::proofs::SmallNumbers::one_read, crate::proofs::SmallNumbers::two_read, crate::proofs::SmallNumbers::three_read))]
+fn short(bytes: &[u8]) -> Option<(i64, usize)>
+    ensures read { IfSome result (λ r. number_from bytes.now ≡ Ok (r.0, drop r.1 bytes.now)) }
+    ensures within { IfSome result (λ r. r.1 ≤ length bytes.now) }
 {
-    let bytes = rest.rest();
-    if let Some(number) = small(bytes) {
-        rest.take(1);
-        return Ok(number);
+    if bytes.len() < 3 {
+        return None;
     }
+    let first = u32::from(bytes[0]);
+    if first < 128 {
+        return Some((unzigzag(first), 1));
+    }
+    let second = u32::from(bytes[1]);
+    if second < 128 {
+        if second == 0 {
+            return None;
+        }
+        return Some((unzigzag(first - 128 + 128 * second), 2));
+    }
+    let third = u32::from(bytes[2]);
+    if third == 0 || third >= 128 {
+        return None;
+    }
+    Some((
+        unzigzag(first - 128 + 128 * (second - 128 + 128 * third)),
+        3,
+    ))
+}
+
+/// The number at the front, however many bytes it takes, and how many these are.
+#[inline(never)]
+#[tactic(auto, unfolding(crate::specs::Numbers::number_from))]
+fn long(bytes: &[u8]) -> Result<(i64, usize), FoldFault>
+    ensures read { IfOk result (λ r. number_from bytes.now ≡ Ok (r.0, drop r.1 bytes.now)) }
+    ensures within { IfOk result (λ r. r.1 ≤ length bytes.now) }
+    ensures err { IfErr result (λ e. Fails e (number_from bytes.now)) }
+{
     let Some((number, len)) = read_varlong(bytes) else {
         if bytes.len() < MOST {
             return Err(FoldFault::Short);
@@ -76,11 +104,34 @@ pub(crate) fn read_number(rest: &mut Cursor<'_>) -> Result<i64, FoldFault>
     if !is_shortest(bytes, len) {
         return Err(FoldFault::Number);
     }
+    Ok((number, len))
+}
+
+/// The number at the front, and how many bytes it takes.
+#[inline(always)]
+fn found(bytes: &[u8]) -> Result<(i64, usize), FoldFault>
+    ensures read { IfOk result (λ r. number_from bytes.now ≡ Ok (r.0, drop r.1 bytes.now)) }
+    ensures within { IfOk result (λ r. r.1 ≤ length bytes.now) }
+    ensures err { IfErr result (λ e. Fails e (number_from bytes.now)) }
+{
+    match short(bytes) {
+        Some(found) => Ok(found),
+        None => long(bytes),
+    }
+}
+
+/// A number of 64 bits.
+#[inline(always)]
+pub(crate) fn read_number(rest: &mut Cursor<'_>) -> Result<i64, FoldFault>
+    ensures { Gives result rest.new (number_from rest.old) }
+{
+    let (number, len) = found(rest.rest())?;
     rest.take(len);
     Ok(number)
 }
 
 /// A number from this one to that one.
+#[inline(always)]
 #[tactic(auto, unfolding(crate::specs::Numbers::within_from))]
 fn read_within(rest: &mut Cursor<'_>, low: i64, high: i64) -> Result<i64, FoldFault>
     ensures read { Gives result rest.new (within_from low high rest.old) }
@@ -94,6 +145,7 @@ fn read_within(rest: &mut Cursor<'_>, low: i64, high: i64) -> Result<i64, FoldFa
 }
 
 /// A number of 32 bits.
+#[inline(always)]
 pub(crate) fn read_i32(rest: &mut Cursor<'_>) -> Result<i32, FoldFault>
     ensures { Gives result rest.new (i32_from rest.old) }
 {
@@ -102,6 +154,7 @@ pub(crate) fn read_i32(rest: &mut Cursor<'_>) -> Result<i32, FoldFault>
 }
 
 /// A number of 16 bits.
+#[inline(always)]
 pub(crate) fn read_i16(rest: &mut Cursor<'_>) -> Result<i16, FoldFault>
     ensures { Gives result rest.new (i16_from rest.old) }
 {
@@ -110,6 +163,7 @@ pub(crate) fn read_i16(rest: &mut Cursor<'_>) -> Result<i16, FoldFault>
 }
 
 /// An unsigned number of 64 bits.
+#[inline(always)]
 #[tactic(auto, unfolding(crate::specs::Numbers::u64_from))]
 pub(crate) fn read_u64(rest: &mut Cursor<'_>) -> Result<u64, FoldFault>
     ensures { Gives result rest.new (u64_from rest.old) }
@@ -119,6 +173,7 @@ pub(crate) fn read_u64(rest: &mut Cursor<'_>) -> Result<u64, FoldFault>
 }
 
 /// An unsigned number of 32 bits.
+#[inline(always)]
 #[tactic(auto, unfolding(crate::specs::Numbers::u32_from))]
 pub(crate) fn read_u32(rest: &mut Cursor<'_>) -> Result<u32, FoldFault>
     ensures { Gives result rest.new (u32_from rest.old) }
@@ -131,6 +186,7 @@ pub(crate) fn read_u32(rest: &mut Cursor<'_>) -> Result<u32, FoldFault>
 }
 
 /// A text, as a run of the file's bytes.
+#[inline(always)]
 #[tactic(auto, unfolding(crate::specs::Numbers::bytes_from))]
 pub(crate) fn read_text_bytes<'a>(rest: &mut Cursor<'a>) -> Result<Cursor<'a>, FoldFault>
     ensures { Gives result rest.new (bytes_from rest.old) }

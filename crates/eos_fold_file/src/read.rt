@@ -15,17 +15,19 @@
 //! | stop | as its module says | why the front ends |
 //! | checksum | UINT32 | CRC-32C of all bytes before it |
 
-ghost use Rattle.std.specs.Prelude.{◌≡◌, ◌≤◌, ◌+◌, ◌^◌, IfOk, unsigned_abs};
+ghost use Rattle.std.specs.Prelude.{◌≡◌, ◌≤◌, ◌+◌, ◌-◌, ◌^◌, min, IfOk, unsigned_abs};
 ghost use Rattle.eos_fold_file.specs.declared.file.FoldFile.{FoldFile};
 ghost use Rattle.eos_fold_file.specs.Faults.{Answers};
-ghost use Rattle.eos_fold_file.specs.Files.{record_count, fold_text};
+ghost use Rattle.eos_fold_file.specs.Files.{record_count, data_records, fold_text};
+ghost use Rattle.eos_fold_file.specs.Heads.{head_from};
 ghost use Rattle.eos_fold_file.specs.Legal.{IsLegal};
+ghost use Rattle.eos_fold_file.specs.Numbers.{many_from};
 ghost use Rattle.eos_fold_file.specs.Reading.{magic_from, version_from, wanted_from, batches_from, front_from, heads_from, epochs_from, placed_claims, claims_from, texts_from, kept_from, body_from, read_fold};
 ghost use Rattle.eos_fold_file.specs.steps.Faults.{Gives};
-ghost use Rattle.eos_fold_file.specs.steps.Counts.{IsCountedHeads, GivesHeads};
+ghost use Rattle.eos_fold_file.specs.steps.Counts.{GivesCounted, GivesHeads};
 
 use crate::claim::are_placed;
-use crate::entry::read_many;
+use crate::entry::{Entry, read_many};
 use crate::epoch::are_entries;
 use crate::fault::FoldFault;
 use crate::file::{FoldFile, FoldKept};
@@ -39,6 +41,9 @@ use eos_reading::{EpochEntry, KeptOutput, Wanted};
 use eos_wire::{Cursor, are_bytes, crc32c};
 use std::alloc::Global;
 
+/// The fewest bytes of a head: its batch has 68 bytes or more, and a number above 63 takes two.
+const LEAST_HEAD: usize = 7;
+
 /// What stands before the batches.
 #[derive(Drop)]
 pub(crate) struct Front {
@@ -50,12 +55,12 @@ pub(crate) struct Front {
     pub(crate) batches: u32,
 }
 
-/// What the batches of a front are together.
+/// What the batches of a front are together, as far as a u64 tells.
 #[derive(Clone, Copy)]
 pub(crate) struct Counted {
     /// The offset after their last record.
     pub(crate) next: u64,
-    /// The number of their data records.
+    /// The number of their data records, where that offset is known.
     pub(crate) records: u64,
     /// The number of their bytes.
     pub(crate) size: u64,
@@ -124,26 +129,54 @@ fn read_front(rest: &mut Cursor<'_>) -> Result<Front, FoldFault>
     })
 }
 
-/// The offset after the last record of batches from this one on, and the number of their bytes, or the greatest u64 where that is less;
-/// and how many data records they have, where no offset passes the greatest i64.
-fn count_records(begin: u64, heads: &[FoldHead]) -> Counted
-    ensures { IsCountedHeads begin heads.now result }
+/// The number of a batch's data records.
+fn data_records(head: &FoldHead) -> u64
+    ensures { result ≡ data_records head.now }
 {
-    let mut next = begin;
-    let mut records = 0u64;
-    let mut size = 0u64;
-    for head in heads {
-        next = next.saturating_add(u64::from(head.count));
-        if !head.is_control() {
-            records = records.saturating_add(u64::from(head.count));
-        }
-        size = size.saturating_add(head.size as u64);
+    if head.is_control() {
+        return 0;
     }
+    u64::from(head.count)
+}
+
+/// The same with this batch behind them. A number that a u64 doesn't hold is the greatest one.
+fn counted_on(before: Counted, head: &FoldHead) -> Counted
+    ensures next { result.next ≡ min (before.next + head.now.count) (2 ^ 64 - 1) }
+    ensures records { result.records ≡ min (before.records + data_records head.now) (2 ^ 64 - 1) }
+    ensures size { result.size ≡ min (before.size + head.now.size) (2 ^ 64 - 1) }
+{
     Counted {
-        next,
-        records,
-        size,
+        next: before.next.saturating_add(u64::from(head.count)),
+        records: before.records.saturating_add(data_records(head)),
+        size: before.size.saturating_add(head.size as u64),
     }
+}
+
+/// So many heads, the first of a batch that begins here, and what their batches are together. Their list has room for no more of them than
+/// can stand in the bytes that are left.
+fn read_counted(
+    alloc: Global,
+    rest: &mut Cursor<'_>,
+    begin: u64,
+    count: u64,
+) -> Result<(Listed<FoldHead>, Counted), FoldFault>
+    ensures { GivesCounted begin result rest.new (many_from head_from count rest.old) }
+{
+    let room = count.min((rest.left() / LEAST_HEAD) as u64) as usize;
+    let mut heads = Listed::new(Vec::with_capacity(alloc, room)?);
+    let mut counted = Counted {
+        next: begin,
+        records: 0,
+        size: 0,
+    };
+    let mut here = rest.fork();
+    for _ in 0..count {
+        let head = FoldHead::read(alloc, &mut here)?;
+        counted = counted_on(counted, &head);
+        heads.push(head)?;
+    }
+    *rest = here;
+    Ok((heads, counted))
 }
 
 /// The heads of a segment of this name and of so many bytes.
@@ -158,8 +191,7 @@ pub(crate) fn read_heads(
     ensures within { IfOk result (λ read. unsigned_abs base + record_count read.0 ≤ 2 ^ 63) }
 {
     let count = read_u64(rest)?;
-    let heads: Listed<FoldHead> = read_many(alloc, rest, count)?;
-    let counted = count_records(base.unsigned_abs(), heads.as_slice());
+    let (heads, counted) = read_counted(alloc, rest, base.unsigned_abs(), count)?;
     if counted.next > 1 << 63 {
         return Err(FoldFault::Head);
     }
