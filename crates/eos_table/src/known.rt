@@ -17,8 +17,8 @@ use eos_wire::{Form, crc32c};
 use std::alloc::{AllocError, Global};
 use std::marker::Model;
 
-/// How many of either are kept.
-const MOST: usize = 1024;
+/// At most so many of either are kept.
+const MOST: u64 = 16384;
 
 /// A key that was read.
 #[derive(Drop)]
@@ -113,9 +113,14 @@ fn copied(alloc: Global, bytes: &[u8]) -> Result<Vec<u8>, AllocError>
     Ok(copy)
 }
 
-/// Where the bytes are looked for.
-fn slot_of(bytes: &[u8]) -> usize {
-    crc32c(bytes) as usize % MOST
+/// In how many slots what was read of so many records is kept.
+pub(crate) fn slots_for(records: u64) -> u64 {
+    records.clamp(1, MOST)
+}
+
+/// Where the bytes are looked for among so many slots.
+fn slot_of(bytes: &[u8], slots: usize) -> usize {
+    crc32c(bytes) as usize % slots.max(1)
 }
 
 /// What was read, each at the slot of its bytes; the last one stays there.
@@ -126,11 +131,11 @@ pub(crate) struct Known {
 }
 
 impl Known {
-    /// Nothing was read.
-    pub fn new(alloc: Global) -> Result<Known, AllocError> {
+    /// Nothing was read. There are so many slots for either.
+    pub fn new(alloc: Global, slots: u64) -> Result<Known, AllocError> {
         let mut keys = Vec::new(alloc);
         let mut sets = Vec::new(alloc);
-        for _slot in 0..MOST {
+        for _slot in 0..slots {
             keys.push(None)?;
             sets.push(None)?;
         }
@@ -140,7 +145,7 @@ impl Known {
     fn known_id(&self, key: &[u8]) -> Result<Option<Bytes>, AllocError>
         ensures { IfOk result (λ found. IfSome found (λ id. read_key key.now ≡ Ok (Some id))) }
     {
-        let Some(Some(known)) = self.keys.get(slot_of(key)) else {
+        let Some(Some(known)) = self.keys.get(slot_of(key, self.keys.len())) else {
             return Ok(None);
         };
         if !known.is_of(key) {
@@ -153,7 +158,8 @@ impl Known {
         requires { read_key key.now ≡ Ok (Some id.now) }
     {
         let known = KnownKey::new(alloc, key, id)?;
-        if let Some(slot) = self.keys.get_mut(slot_of(key)) {
+        let place = slot_of(key, self.keys.len());
+        if let Some(slot) = self.keys.get_mut(place) {
             *slot = Some(known);
         }
         Ok(())
@@ -180,7 +186,7 @@ impl Known {
     fn known_set(&self, form: Form, text: &[u8]) -> Result<Option<Partitions>, AllocError>
         ensures { IfOk result (λ found. IfSome found (λ set. IsSetText form text.now set)) }
     {
-        let Some(Some(known)) = self.sets.get(slot_of(text)) else {
+        let Some(Some(known)) = self.sets.get(slot_of(text, self.sets.len())) else {
             return Ok(None);
         };
         if !known.is_of(form, text) {
@@ -211,7 +217,8 @@ impl Known {
         requires { IsSetText form text.now set.now }
     {
         let known = KnownSet::new(alloc, form, text, set)?;
-        if let Some(slot) = self.sets.get_mut(slot_of(text)) {
+        let place = slot_of(text, self.sets.len());
+        if let Some(slot) = self.sets.get_mut(place) {
             *slot = Some(known);
         }
         Ok(())

@@ -8,7 +8,7 @@ ghost use Rattle.eos_table.specs.declared.content.Content.TheVariants.{Of};
 ghost use Rattle.eos_table.specs.steps.LogCandidates.{after, unread, taken, open_at, step_faults, faults_at, faults_after, part_faults, step_of};
 
 use crate::content::Content;
-use crate::known::Known;
+use crate::known::{Known, slots_for};
 use crate::last_values::{LastValues, is_of_transaction_log, is_open, kind_of_status, last_value};
 use crate::log_faults::LogFaults;
 use crate::mark::{Mark, Place, producer_of};
@@ -235,6 +235,17 @@ impl LogReading {
     }
 }
 
+/// How many records the log has.
+fn count_records(parts: &[Part]) -> u64 {
+    let mut count = 0u64;
+    for part in parts {
+        if is_of_transaction_log(part) {
+            count = count.saturating_add(part.items().len() as u64);
+        }
+    }
+    count
+}
+
 /// Reads the partitions of the log, of these of all topics.
 pub(crate) fn read_log(
     alloc: Global,
@@ -243,7 +254,10 @@ pub(crate) fn read_log(
 ) -> Result<LogReading, AllocError>
     ensures { IfOk result (λ reading. reading ≡ after (unread faults) (all_steps (transaction_parts parts.now)) (flat_map part_faults (transaction_parts parts.now))) }
 {
-    let mut reading = LogReading::new(alloc, faults, Known::new(alloc)?, Sets::new(alloc)?);
+    let slots = slots_for(count_records(parts));
+    let known = Known::new(alloc, slots)?;
+    let sets = Sets::new(alloc, slots)?;
+    let mut reading = LogReading::new(alloc, faults, known, sets);
     for part in parts {
         if is_of_transaction_log(part) {
             reading.take_part(alloc, part)?;

@@ -12,9 +12,6 @@ use std::alloc::{AllocError, Global};
 use std::marker::Model;
 use std::sync::Arc;
 
-/// How many sets are looked at for an equal one.
-const MOST: usize = 1024;
-
 /// How a transaction ends, decided by a Prepare record, which contracts see as a `Decision`.
 #[derive(Debug, Drop)]
 pub struct SharedDecision {
@@ -91,13 +88,13 @@ fn mixed_with(sum: u64, topic: &TopicPartitions) -> u64 {
     sum
 }
 
-/// Where an equal set is looked for.
-fn slot_of(set: &[TopicPartitions]) -> usize {
+/// Where an equal set is looked for among so many slots.
+fn slot_of(set: &[TopicPartitions], slots: usize) -> usize {
     let mut sum = 0;
     for topic in set {
         sum = mixed_with(sum, topic);
     }
-    (sum % MOST as u64) as usize
+    (sum % slots.max(1) as u64) as usize
 }
 
 /// The set, with no other owner yet.
@@ -118,10 +115,10 @@ pub(crate) struct Sets {
 }
 
 impl Sets {
-    /// No set yet.
-    pub(crate) fn new(alloc: Global) -> Result<Sets, AllocError> {
+    /// No set yet, and so many slots.
+    pub(crate) fn new(alloc: Global, count: u64) -> Result<Sets, AllocError> {
         let mut slots = Vec::new(alloc);
-        for _slot in 0..MOST {
+        for _slot in 0..count {
             slots.push(None)?;
         }
         Ok(Sets { alloc, slots })
@@ -147,7 +144,7 @@ impl Sets {
     fn shared(&mut self, set: &Partitions) -> Result<Arc<Partitions, Global>, AllocError>
         ensures { IfOk result (λ shared. arc_value shared ≡ set.now) }
     {
-        let slot = slot_of(set.as_slice());
+        let slot = slot_of(set.as_slice(), self.slots.len());
         if let Some(known) = self.known(slot, set)? {
             return Ok(known);
         }
