@@ -8,20 +8,9 @@ use Rattle.eos_kept.specs.Faults.{AreFaultsIn, first_of}
 use Rattle.eos_touch.specs.declared.fault.PartitionFault.{PartitionFault}
 use Rattle.eos_notes.specs.declared.note.Note.{Note}
 use Rattle.eos_reading.specs.declared.epoch.EpochEntry.{EpochEntry}
-use Rattle.eos_notes.specs.Notes.{AreNotesBy, AreNotes, AreAllNotesBy, AreAllNotes}
-use Rattle.eos_notes.specs.Lines.{IsNotesTextBy, IsNotesText, IsAllNotesTextBy, IsAllNotesText}
+use Rattle.eos_notes.specs.Notes.{AreAllNotesBy, AreAllNotes}
+use Rattle.eos_notes.specs.Lines.{IsAllNotesTextBy, IsAllNotesText}
 use Rattle.eos_notes.proofs.FirstNamed.{first_named}
-
-pub notes_are : (e : EvidenceParts) (ls : List PartLog) (fs : List (Option PartitionFault)) (notes : List Note) → AreLogsOf e.partitions ls → AreFaultsIn e.partitions fs
-    → AreNotesBy e.spec ls (is_some (first_of fs)) notes → AreNotes e notes
-notes_are e ls fs notes of named by = (ls, of, first_of fs, first_named e.partitions ls of fs named, by)
-
-pub text_is : (e : EvidenceParts) (ls : List PartLog) (fs : List (Option PartitionFault)) (quiet : Bool) (text : List ℕ) → AreLogsOf e.partitions ls → AreFaultsIn e.partitions fs
-    → IsNotesTextBy e.spec ls (is_some (first_of fs)) quiet text → IsNotesText e quiet text
-text_is e ls fs true text of named by = by
-text_is e ls fs false text of named by = (by.0, notes_are e ls fs by.0 of named by.1, by.2)
-
--- ---- with those of replicas
 
 pub all_are : (e : EvidenceParts) (ls : List PartLog) (fs : List (Option PartitionFault)) (epochs : List (List EpochEntry)) (notes : List Note) → AreLogsOf e.partitions ls → AreFaultsIn e.partitions fs → HaveEpochs e.partitions epochs
     → AreAllNotesBy e.spec ls epochs (is_some (first_of fs)) notes → AreAllNotes e notes

@@ -30,11 +30,6 @@ abbrev pub AreNotesBy : SpecFields → List PartLog → Bool → List Note → T
 AreNotesBy spec logs true notes = notes ≡ of_manifest spec
 AreNotesBy spec logs false notes = (unlisted : List Note) × AreUnlistedNotes spec.ends logs spec.apps unlisted × (notes ≡ of_all spec logs unlisted)
 
--- of the evidence, over its logs as the verdict sees them
-abbrev pub AreNotes : EvidenceParts → List Note → Type 0
-AreNotes e notes =
-    (logs : List PartLog) × AreLogsOf e.partitions logs × (fault : Option PartitionFault) × IsFirstFault logs fault × AreNotesBy e.spec logs (is_some fault) notes
-
 -- ---- with those of replicas, by the entries at which the leader epochs of the partitions change
 
 abbrev pub of_replicas : SpecFields → List PartLog → List (List EpochEntry) → Bool → List Note
@@ -43,6 +38,7 @@ of_replicas spec logs epochs faulty = falls (map part_name logs) epochs ++ other
 abbrev pub AreAllNotesBy : SpecFields → List PartLog → List (List EpochEntry) → Bool → List Note → Type 0
 AreAllNotesBy spec logs epochs faulty notes = (first : List Note) × AreNotesBy spec logs faulty first × (notes ≡ first ++ of_replicas spec logs epochs faulty)
 
+-- of the evidence, over its logs as the verdict sees them
 abbrev pub AreAllNotes : EvidenceParts → List Note → Type 0
 AreAllNotes e notes =
     (logs : List PartLog) × AreLogsOf e.partitions logs × (fault : Option PartitionFault) × IsFirstFault logs fault × (epochs : List (List EpochEntry)) × HaveEpochs e.partitions epochs

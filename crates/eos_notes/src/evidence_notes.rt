@@ -1,13 +1,12 @@
 //! The notes of an evidence, in their order.
 
-ghost use Rattle.std.specs.Prelude.{◌≡◌, ◌++◌, [], false, is_some, List, map, IfOk, OnOk, IsPermutation};
+ghost use Rattle.std.specs.Prelude.{◌≡◌, ◌++◌, [], false, List, map, IfOk, OnOk, IsPermutation};
 ghost use Rattle.eos_base.specs.Members.{Has};
 ghost use Rattle.eos_commits.specs.EvidenceLogs.{commits_for};
 ghost use Rattle.eos_commits.specs.Faults.{AreInOrder};
 ghost use Rattle.eos_commits.specs.Plain.{plain_commit};
 ghost use Rattle.eos_commits.specs.Tables.{IsTableOf};
 ghost use Rattle.eos_evidence.specs.declared.application.App.{App as AppOf};
-ghost use Rattle.eos_kept.specs.Faults.{first_of};
 ghost use Rattle.eos_notes.specs.CommitNotes.{past_ends_in, nothing_in, behind_in, past_ends, nothing_committed, behind};
 ghost use Rattle.eos_notes.specs.ManifestNotes.{no_application, absent_topics, gaps, absent_internals};
 ghost use Rattle.eos_notes.specs.Notes.{of_manifest, AreNotesBy};
@@ -19,7 +18,7 @@ use crate::note::Note;
 use crate::unlisted::unlisted_notes;
 use eos_commits::{CommitRef, CommitTable, TopicSet, committed_offsets};
 use eos_evidence::{App, End, Spec};
-use eos_kept::{Logs, Part};
+use eos_kept::Part;
 use std::alloc::{AllocError, Global};
 
 /// What was found of what groups have committed, by the kind of note.
@@ -101,15 +100,20 @@ fn take_app(
 }
 
 /// What the applications' groups have committed.
-fn found_of(alloc: Global, apps: &[App], parts: &[Part]) -> Result<Found, AllocError>
+fn found_of(
+    alloc: Global,
+    apps: &[App],
+    table: &CommitTable<'_>,
+    parts: &[Part],
+) -> Result<Found, AllocError>
+    requires { IsTableOf apps.now parts.now table.now }
     ensures past_ends { AreInOrder parts.now → IfOk result (λ f. f.past_ends.items ≡ past_ends parts.now apps.now) }
     ensures nothing { IfOk result (λ f. f.nothing.items ≡ nothing_committed parts.now apps.now) }
     ensures behind { AreInOrder parts.now → IfOk result (λ f. f.behind.items ≡ behind parts.now apps.now) }
 {
-    let table = CommitTable::of(alloc, apps, parts)?;
     let mut found = Found::new(alloc);
     for app in apps {
-        take_app(alloc, &mut found, app, &table, parts)?;
+        take_app(alloc, &mut found, app, table, parts)?;
     }
     Ok(found)
 }
@@ -156,7 +160,11 @@ fn push_of_manifest(
     Ok(())
 }
 
-fn manifest_notes(alloc: Global, spec: &Spec) -> Result<Vec<Note>, AllocError>
+/// The notes that the manifest alone shows.
+///
+/// # Errors
+/// Only want of memory.
+pub(crate) fn manifest_notes(alloc: Global, spec: &Spec) -> Result<Vec<Note>, AllocError>
     ensures { IfOk result (λ all. all.items ≡ of_manifest spec.now) }
 {
     let mut all = Vec::new(alloc);
@@ -169,34 +177,27 @@ fn manifest_notes(alloc: Global, spec: &Spec) -> Result<Vec<Note>, AllocError>
     Ok(all)
 }
 
-fn all_notes(alloc: Global, spec: &Spec, parts: &[Part]) -> Result<Vec<Note>, AllocError>
+/// The notes of an evidence with this manifest and these logs, whole ones or what is kept of them, of which none has a fault, by the
+/// commits of its applications' groups: signs that it isn't the one that was meant.
+///
+/// # Errors
+/// Only want of memory.
+pub(crate) fn notes(
+    alloc: Global,
+    spec: &Spec,
+    table: &CommitTable<'_>,
+    parts: &[Part],
+) -> Result<Vec<Note>, AllocError>
+    requires { IsTableOf spec.now.apps parts.now table.now }
     ensures { AreInOrder parts.now → IfOk result (λ all. AreNotesBy spec.now parts.now false all.items) }
 {
     let apps = spec.apps().as_slice();
     let ends = spec.ends().as_slice();
     let mut all = Vec::new(alloc);
     push_no_application(&mut all, apps)?;
-    let mut unlisted = unlisted_notes(alloc, apps, ends, parts)?;
+    let mut unlisted = unlisted_notes(alloc, apps, ends, table)?;
     append(&mut all, &mut unlisted)?;
-    let mut found = found_of(alloc, apps, parts)?;
+    let mut found = found_of(alloc, apps, table, parts)?;
     push_all(alloc, &mut all, &mut found, apps, ends)?;
     Ok(all)
-}
-
-/// The notes of an evidence with this manifest and these logs, whole ones or what is kept of them: signs that it isn't the one that
-/// was meant. Where the log of a partition has a fault, it isn't known which records are visible, and only those are looked for
-/// that the manifest alone shows.
-///
-/// # Errors
-/// Only want of memory.
-pub fn notes(alloc: Global, spec: &Spec, logs: &Logs) -> Result<Vec<Note>, AllocError>
-    ensures { AreInOrder logs.now.parts.items
-        → IfOk result (λ notes. AreNotesBy spec.now logs.now.parts.items (is_some (first_of logs.now.faults.items)) notes.items) }
-{
-    if logs.first_fault().is_some() {
-        let notes = manifest_notes(alloc, spec)?;
-        return Ok(notes);
-    }
-    let notes = all_notes(alloc, spec, logs.parts.as_slice())?;
-    Ok(notes)
 }

@@ -9,8 +9,8 @@ ghost use Rattle.eos_fold.specs.Fronts.{IsFront};
 ghost use Rattle.eos_fold.specs.declared.stop.Stop.{Stop};
 ghost use Rattle.eos_fold.specs.Parts.{PartLog};
 ghost use Rattle.eos_commits.specs.EvidenceLogs.{AreLogsOf};
-ghost use Rattle.eos_notes.specs.Lines.{IsNotesTextBy, IsNotesText, IsAllNotesTextBy, IsAllNotesText};
-ghost use Rattle.eos_notes.specs.Notes.{AreNotesBy, AreNotes, AreAllNotesBy, AreAllNotes};
+ghost use Rattle.eos_notes.specs.Lines.{IsAllNotesTextBy, IsAllNotesText};
+ghost use Rattle.eos_notes.specs.Notes.{AreAllNotesBy, AreAllNotes};
 ghost use Rattle.eos_notes.specs.declared.note.Note.{Note as NoteOf};
 ghost use Rattle.eos_kept.specs.Parts.{HasEpochs, HaveEpochs};
 ghost use Rattle.eos_notes.specs.ReplacedNotes.{epoch_below, epoch_before};
@@ -18,15 +18,11 @@ ghost use Rattle.eos_kept.specs.Faults.{AreFaultsIn, first_of};
 ghost use Rattle.eos_reading.specs.declared.epoch.EpochEntry.{EpochEntry};
 ghost use Rattle.eos_touch.specs.declared.fault.PartitionFault.{PartitionFault};
 
-/// The logs of an evidence stand in order, and the notes by its manifest and these logs, with the first of its partitions' faults,
-/// are the evidence's; so is their text. So it is of all notes, with the entries of its partitions' leader epochs; and by
-/// these entries the leader epoch before an offset is that of the last batch of the front which begins below it.
+/// The logs of an evidence stand in order, and all notes by its manifest, these logs and the entries of its partitions' leader epochs,
+/// with the first of its partitions' faults, are the evidence's; so is their text. By these entries the leader epoch before an offset
+/// is that of the last batch of the front which begins below it.
 pub fn whole()
     ensures order { (e : EvidenceParts) (logs : List PartLog) → IsEvidence e → AreLogsOf e.partitions logs → AreInOrder logs }
-    ensures notes { (e : EvidenceParts) (logs : List PartLog) (faults : List (Option PartitionFault)) (notes : List NoteOf)
-        → AreLogsOf e.partitions logs → AreFaultsIn e.partitions faults → AreNotesBy e.spec logs (is_some (first_of faults)) notes → AreNotes e notes }
-    ensures text { (e : EvidenceParts) (logs : List PartLog) (faults : List (Option PartitionFault)) (quiet : Bool) (text : List ℕ)
-        → AreLogsOf e.partitions logs → AreFaultsIn e.partitions faults → IsNotesTextBy e.spec logs (is_some (first_of faults)) quiet text → IsNotesText e quiet text }
     ensures all { (e : EvidenceParts) (logs : List PartLog) (faults : List (Option PartitionFault)) (epochs : List (List EpochEntry)) (notes : List NoteOf)
         → AreLogsOf e.partitions logs → AreFaultsIn e.partitions faults → HaveEpochs e.partitions epochs
         → AreAllNotesBy e.spec logs epochs (is_some (first_of faults)) notes → AreAllNotes e notes }

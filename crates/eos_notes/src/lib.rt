@@ -28,9 +28,8 @@ mod text;
 mod unlisted;
 
 pub use counts::counted_of;
-pub use evidence_notes::notes;
 pub use evidence_tallies::tallies_of;
-pub use lines::{all_lines, lines_of};
+pub use lines::all_lines;
 pub use note::{InternalTopic, Note, OtherRecord};
 pub use replicas::all_notes;
 pub use tally::{Counted, GroupTally, PartitionTally, SourceTally, Tallies, TopicRoles};

@@ -3,9 +3,8 @@
 ghost use Rattle.std.specs.Prelude.{false, is_some, IfOk, string_bytes};
 ghost use Rattle.eos_commits.specs.Faults.{AreInOrder};
 ghost use Rattle.eos_kept.specs.Faults.{first_of};
-ghost use Rattle.eos_notes.specs.Lines.{IsNotesTextBy, IsAllNotesTextBy};
+ghost use Rattle.eos_notes.specs.Lines.{IsAllNotesTextBy};
 
-use crate::evidence_notes::notes;
 use crate::replicas::all_notes;
 use crate::text::note_lines;
 use eos_base::Listed;
@@ -14,31 +13,8 @@ use eos_kept::Logs;
 use eos_reading::EpochEntry;
 use std::alloc::{AllocError, Global};
 
-/// The lines of the notes of an evidence with this manifest and these logs, or nothing where they are left out.
-///
-/// # Errors
-/// Only want of memory.
-pub fn lines_of(alloc: Global, spec: &Spec, logs: &Logs, quiet: bool) -> Result<String, AllocError>
-    ensures { AreInOrder logs.now.parts.items
-        → IfOk result (λ text. IsNotesTextBy spec.now logs.now.parts.items (is_some (first_of logs.now.faults.items)) quiet (string_bytes text)) }
-{
-    if quiet {
-        Ok(String::new(alloc))
-    } else {
-        found_lines(alloc, spec, logs)
-    }
-}
-
-fn found_lines(alloc: Global, spec: &Spec, logs: &Logs) -> Result<String, AllocError>
-    ensures { AreInOrder logs.now.parts.items
-        → IfOk result (λ text. IsNotesTextBy spec.now logs.now.parts.items (is_some (first_of logs.now.faults.items)) false (string_bytes text)) }
-{
-    let found = notes(alloc, spec, logs)?;
-    let lines = note_lines(alloc, found.as_slice())?;
-    Ok(lines)
-}
-
-/// The same with the notes of replicas, by the entries at which the partitions' leader epochs change.
+/// The lines of all notes of an evidence with this manifest, these logs and the entries at which the partitions' leader epochs change,
+/// or nothing where they are left out.
 ///
 /// # Errors
 /// Only want of memory.

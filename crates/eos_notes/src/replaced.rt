@@ -21,9 +21,9 @@ use std::alloc::{AllocError, Global};
 
 /// The partitions' logs, and the entries at which the leader epoch of each changes.
 #[derive(Clone, Copy)]
-struct Led<'a> {
-    parts: &'a [Part],
-    epochs: &'a [Listed<EpochEntry>],
+pub(crate) struct Led<'a> {
+    pub(crate) parts: &'a [Part],
+    pub(crate) epochs: &'a [Listed<EpochEntry>],
 }
 
 /// What a group has committed of each part, in their order.
@@ -160,7 +160,7 @@ fn push_app(
 }
 
 /// Puts a note at the end for each partition of which an application's group has committed an offset under another leader epoch than
-/// that of the record before it, by the entries at which the partitions' leader epochs change.
+/// that of the record before it, by the entries at which the partitions' leader epochs change and the commits of the groups.
 ///
 /// # Errors
 /// Only want of memory.
@@ -168,14 +168,14 @@ pub(crate) fn push_others(
     alloc: Global,
     all: &mut Vec<Note>,
     apps: &[App],
-    parts: &[Part],
-    epochs: &[Listed<EpochEntry>],
+    logs: Led<'_>,
+    table: &CommitTable<'_>,
 ) -> Result<(), AllocError>
-    ensures { AreInOrder parts.now → OnOk result (all.new.items ≡ all.old.items ++ others parts.now epochs.now apps.now) }
+    requires { IsTableOf apps.now logs.parts.now table.now }
+    ensures { AreInOrder logs.entry.parts.now → OnOk result (all.new.items ≡ all.old.items ++ others logs.entry.parts.now logs.entry.epochs.now apps.now) }
 {
-    let table = CommitTable::of(alloc, apps, parts)?;
     for app in apps {
-        push_app(alloc, all, app, Led { parts, epochs }, &table)?;
+        push_app(alloc, all, app, logs, table)?;
     }
     Ok(())
 }

@@ -1,17 +1,17 @@
 //! The notes of partitions whose segments are of two replicas, and all notes with those of replicas.
 
-ghost use Rattle.std.specs.Prelude.{◌≡◌, ◌++◌, None, is_some, map, IfOk, OnOk};
+ghost use Rattle.std.specs.Prelude.{◌≡◌, ◌++◌, None, true, false, is_some, map, IfOk, OnOk};
 ghost use Rattle.eos_commits.specs.Faults.{AreInOrder};
 ghost use Rattle.eos_fold.specs.Parts.{part_name};
 ghost use Rattle.eos_notes.specs.Notes.{AreAllNotesBy};
-ghost use Rattle.eos_notes.specs.ReplacedNotes.{others_unless};
 ghost use Rattle.eos_notes.specs.ReplicaNotes.{is_fall, falls_at, fall_note, falls};
 ghost use Rattle.eos_kept.specs.Faults.{first_of};
 
-use crate::evidence_notes::notes;
+use crate::evidence_notes::{manifest_notes, notes};
 use crate::note::Note;
-use crate::replaced::push_others;
+use crate::replaced::{Led, push_others};
 use eos_base::{Listed, PartitionName};
+use eos_commits::CommitTable;
 use eos_evidence::Spec;
 use eos_kept::{Logs, Part};
 use eos_reading::EpochEntry;
@@ -76,27 +76,34 @@ fn push_falls(
     Ok(())
 }
 
-/// Puts the notes of commits under another leader epoch at the end, unless a log has a fault.
-fn push_others_unless(
-    alloc: Global,
-    all: &mut Vec<Note>,
-    spec: &Spec,
-    logs: &Logs,
-    epochs: &[Listed<EpochEntry>],
-) -> Result<(), AllocError>
-    ensures { AreInOrder logs.now.parts.items
-        → OnOk result (all.new.items ≡ all.old.items ++ others_unless (is_some (first_of logs.now.faults.items)) logs.now.parts.items epochs.now spec.now.apps) }
+/// All notes where a log has a fault, of which it isn't known which records are visible: those that the manifest alone shows, and
+/// where leader epochs fall.
+fn notes_of_faulty(alloc: Global, spec: &Spec, logs: Led<'_>) -> Result<Vec<Note>, AllocError>
+    ensures { IfOk result (λ notes. AreAllNotesBy spec.now logs.entry.parts.now logs.entry.epochs.now true notes.items) }
 {
-    if logs.first_fault().is_some() {
-        return Ok(());
-    }
-    let apps = spec.apps().as_slice();
-    push_others(alloc, all, apps, logs.parts.as_slice(), epochs)
+    let mut all = manifest_notes(alloc, spec)?;
+    push_falls(&mut all, logs.parts, logs.epochs)?;
+    Ok(all)
 }
 
-/// The notes of an evidence as `notes` gives them, and behind them two kinds of replicas, by the entries at which the leader epochs of
-/// its partitions change: where these fall, of each partition the first such offset, also where a log has a fault; and where a group's
-/// last commit of a partition names another leader epoch than that of the record before its offset.
+/// All notes where no log has a fault. The commits are tabled once for all of them.
+fn notes_of_sound(alloc: Global, spec: &Spec, logs: Led<'_>) -> Result<Vec<Note>, AllocError>
+    ensures { AreInOrder logs.entry.parts.now
+        → IfOk result (λ notes. AreAllNotesBy spec.now logs.entry.parts.now logs.entry.epochs.now false notes.items) }
+{
+    let apps = spec.apps().as_slice();
+    let table = CommitTable::of(alloc, apps, logs.parts)?;
+    let mut all = notes(alloc, spec, &table, logs.parts)?;
+    push_falls(&mut all, logs.parts, logs.epochs)?;
+    push_others(alloc, &mut all, apps, logs, &table)?;
+    Ok(all)
+}
+
+/// The notes of an evidence with this manifest and these logs, whole ones or what is kept of them: signs that it isn't the one that
+/// was meant; and behind them two kinds of replicas, by the entries at which the leader epochs of its partitions change: where these
+/// fall, of each partition the first such offset; and where a group's last commit of a partition names another leader epoch than that
+/// of the record before its offset. Where the log of a partition has a fault, it isn't known which records are visible, and only
+/// what the manifest alone shows is looked for, and where leader epochs fall.
 ///
 /// # Errors
 /// Only want of memory.
@@ -109,8 +116,13 @@ pub fn all_notes(
     ensures { AreInOrder logs.now.parts.items
         → IfOk result (λ notes. AreAllNotesBy spec.now logs.now.parts.items epochs.now (is_some (first_of logs.now.faults.items)) notes.items) }
 {
-    let mut all = notes(alloc, spec, logs)?;
-    push_falls(&mut all, logs.parts.as_slice(), epochs)?;
-    push_others_unless(alloc, &mut all, spec, logs, epochs)?;
-    Ok(all)
+    let led = Led {
+        parts: logs.parts.as_slice(),
+        epochs,
+    };
+    if logs.first_fault().is_some() {
+        notes_of_faulty(alloc, spec, led)
+    } else {
+        notes_of_sound(alloc, spec, led)
+    }
 }

@@ -8,7 +8,9 @@ ghost use Rattle.eos_base.specs.Members.{is_found};
 ghost use Rattle.eos_base.specs.PartitionNames.{name_cmp};
 ghost use Rattle.eos_base.specs.declared.partition_name.PartitionName.{PartitionName as Name};
 ghost use Rattle.eos_commits.specs.Plain.{plain_commit};
+ghost use Rattle.eos_commits.specs.Tables.{IsTableOf};
 ghost use Rattle.eos_evidence.specs.declared.ends.End.{End as EndOf};
+ghost use Rattle.eos_fold.specs.Parts.{PartLog};
 ghost use Rattle.eos_notes.specs.CommitNotes.{end_name, unlisted_note, AreUnlisted, AreUnlistedNotes};
 ghost use Rattle.eos_notes.specs.steps.Unlisted.{plain_name, by_name, commit_name, is_unlisted, AreEachOnce};
 
@@ -17,7 +19,6 @@ use bytes::Bytes;
 use eos_base::{PartitionName, holds, in_order};
 use eos_commits::{CommitRef, CommitTable};
 use eos_evidence::{App, End, GroupId};
-use eos_kept::Part;
 use std::alloc::{AllocError, Global};
 
 /// A partition's name whose topic is lent.
@@ -157,12 +158,12 @@ fn notes_by(
     alloc: Global,
     apps: &[App],
     listed: &[NameRef<'_>],
-    parts: &[Part],
+    table: &CommitTable<'_>,
 ) -> Result<Vec<Note>, AllocError>
     requires { IsSorted by_name listed.now }
-    ensures { IfOk result (λ all. (ends : List EndOf) → IsPermutation (map end_name ends) (map plain_name listed.now) → AreUnlistedNotes ends parts.now apps.now all.items) }
+    ensures { IfOk result (λ all. (logs : List PartLog) (ends : List EndOf) → IsTableOf apps.now logs table.now → IsPermutation (map end_name ends) (map plain_name listed.now)
+        → AreUnlistedNotes ends logs apps.now all.items) }
 {
-    let table = CommitTable::of(alloc, apps, parts)?;
     let mut all = Vec::new(alloc);
     for app in apps {
         let commits = table.commits_of(alloc, app)?;
@@ -172,7 +173,7 @@ fn notes_by(
 }
 
 /// A note for each partition of a source topic that has no declared end, but of which the application's group has committed an
-/// offset.
+/// offset, by the commits of the applications' groups.
 ///
 /// # Errors
 /// Only want of memory.
@@ -180,12 +181,12 @@ pub(crate) fn unlisted_notes(
     alloc: Global,
     apps: &[App],
     ends: &[End],
-    parts: &[Part],
+    table: &CommitTable<'_>,
 ) -> Result<Vec<Note>, AllocError>
-    ensures { IfOk result (λ all. AreUnlistedNotes ends.now parts.now apps.now all.items) }
+    ensures { IfOk result (λ all. (logs : List PartLog) → IsTableOf apps.now logs table.now → AreUnlistedNotes ends.now logs apps.now all.items) }
 {
     let names = listed_names(alloc, ends)?;
     let listed = in_order(names);
-    let all = notes_by(alloc, apps, listed.as_slice(), parts)?;
+    let all = notes_by(alloc, apps, listed.as_slice(), table)?;
     Ok(all)
 }

@@ -17,9 +17,9 @@ use Rattle.eos_notes.specs.CommitNotes.{AreUnlisted, AreUnlistedNotes, past_end_
 use Rattle.eos_notes.specs.ManifestNotes.{no_application, absent_topics, gaps, absent_internals}
 use Rattle.eos_notes.specs.ReplicaNotes.{falls, by_entries}
 use Rattle.eos_notes.specs.ReplacedNotes.{Committed, committed_epoch, other_at, others_in, others, others_unless}
-use Rattle.eos_notes.specs.Notes.{of_all, of_replicas, AreNotesBy, AreNotes, AreAllNotesBy, AreAllNotes}
-use Rattle.eos_notes.specs.Lines.{IsNotesTextBy, IsNotesText, IsAllNotesTextBy, IsAllNotesText}
-use Rattle.eos_notes.proofs.Whole.{notes_are, all_are}
+use Rattle.eos_notes.specs.Notes.{of_all, of_replicas, AreNotesBy, AreAllNotesBy, AreAllNotes}
+use Rattle.eos_notes.specs.Lines.{IsAllNotesTextBy, IsAllNotesText}
+use Rattle.eos_notes.proofs.Whole.{all_are}
 use Rattle.eos_kept.specs.Parts.{HaveEpochs}
 use Rattle.eos_reading.specs.declared.epoch.EpochEntry.{EpochEntry}
 use Rattle.eos_kept.specs.Faults.{AreFaultsIn, first_of}
@@ -71,17 +71,6 @@ all_same spec ps unlisted =
 pub notes_kept : (spec : SpecFields) (ps : List PartLog) (faulty : Bool) (notes : List Note) → AreNotesBy spec (wanted_logs spec.apps ps) faulty notes → AreNotesBy spec ps faulty notes
 notes_kept spec ps true notes h = h
 notes_kept spec ps false notes h = (h.0, unlisted_kept spec.ends spec.apps spec.apps ps h.0 (λ app has. has) h.1, h.2 ∙ all_same spec ps h.0)
-
--- ---- of an evidence
-
-pub whole_notes : (e : EvidenceParts) (ls : List PartLog) (fs : List (Option PartitionFault)) (notes : List Note) → AreLogsOf e.partitions ls → AreFaultsIn e.partitions fs
-    → AreNotesBy e.spec (wanted_logs e.spec.apps ls) (is_some (first_of fs)) notes → AreNotes e notes
-whole_notes e ls fs notes of named by = notes_are e ls fs notes of named (notes_kept e.spec ls (is_some (first_of fs)) notes by)
-
-pub whole_text : (e : EvidenceParts) (ls : List PartLog) (fs : List (Option PartitionFault)) (quiet : Bool) (text : List ℕ) → AreLogsOf e.partitions ls → AreFaultsIn e.partitions fs
-    → IsNotesTextBy e.spec (wanted_logs e.spec.apps ls) (is_some (first_of fs)) quiet text → IsNotesText e quiet text
-whole_text e ls fs true text of named by = by
-whole_text e ls fs false text of named by = (by.0, whole_notes e ls fs by.0 of named by.1, by.2)
 
 -- ---- with those of replicas
 

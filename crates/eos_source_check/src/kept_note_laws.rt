@@ -9,8 +9,8 @@ ghost use Rattle.eos_evidence.specs.SpecFields.{SpecFields};
 ghost use Rattle.eos_evidence.specs.declared.application.App.{App};
 ghost use Rattle.eos_fold.specs.Parts.{PartLog};
 ghost use Rattle.eos_commits.specs.EvidenceLogs.{AreLogsOf};
-ghost use Rattle.eos_notes.specs.Lines.{IsNotesTextBy, IsNotesText, IsAllNotesTextBy, IsAllNotesText};
-ghost use Rattle.eos_notes.specs.Notes.{AreNotesBy, AreNotes, AreAllNotesBy, AreAllNotes};
+ghost use Rattle.eos_notes.specs.Lines.{IsAllNotesTextBy, IsAllNotesText};
+ghost use Rattle.eos_notes.specs.Notes.{AreNotesBy, AreAllNotesBy, AreAllNotes};
 ghost use Rattle.eos_notes.specs.declared.note.Note.{Note};
 ghost use Rattle.eos_kept.specs.Parts.{HaveEpochs};
 ghost use Rattle.eos_kept.specs.Faults.{AreFaultsIn, first_of};
@@ -22,17 +22,11 @@ ghost use Rattle.eos_notes.specs.declared.tally.Counted.{Counted};
 ghost use Rattle.eos_touch.specs.declared.fault.PartitionFault.{PartitionFault};
 ghost use Rattle.eos_reading.specs.Wanted.{wanted_logs};
 
-/// Notes by kept logs are those by the logs, and with the faults of an evidence's partitions they are the evidence's; so is their
-/// text. So it is of all notes, with the entries of its partitions' leader epochs.
+/// Notes by kept logs are those by the logs. All notes, with the faults of an evidence's partitions and the entries of their leader
+/// epochs, are the evidence's; so is their text.
 pub fn notes()
     ensures logs { (spec : SpecFields) (logs : List PartLog) (faulty : Bool) (notes : List Note)
         → AreNotesBy spec (wanted_logs spec.apps logs) faulty notes → AreNotesBy spec logs faulty notes }
-    ensures notes { (e : EvidenceParts) (logs : List PartLog) (faults : List (Option PartitionFault)) (notes : List Note)
-        → AreLogsOf e.partitions logs → AreFaultsIn e.partitions faults
-        → AreNotesBy e.spec (wanted_logs e.spec.apps logs) (is_some (first_of faults)) notes → AreNotes e notes }
-    ensures text { (e : EvidenceParts) (logs : List PartLog) (faults : List (Option PartitionFault)) (quiet : Bool) (text : List ℕ)
-        → AreLogsOf e.partitions logs → AreFaultsIn e.partitions faults
-        → IsNotesTextBy e.spec (wanted_logs e.spec.apps logs) (is_some (first_of faults)) quiet text → IsNotesText e quiet text }
     ensures all { (e : EvidenceParts) (logs : List PartLog) (faults : List (Option PartitionFault)) (epochs : List (List EpochEntry)) (notes : List Note)
         → AreLogsOf e.partitions logs → AreFaultsIn e.partitions faults → HaveEpochs e.partitions epochs
         → AreAllNotesBy e.spec (wanted_logs e.spec.apps logs) epochs (is_some (first_of faults)) notes → AreAllNotes e notes }

@@ -19,4 +19,4 @@ loop-app-preserved c =
 
 pub take_app-requires : goal.take_app-requires
 take_app-requires c =
-    (c.args.apps.now, c.in_ok-table.ensures, item_has c.args.apps.now c.loop-app.app-index c.app-item.result c.loop-app-test.true c.app-item.is)
+    (c.args.apps.now, c.requires, item_has c.args.apps.now c.loop-app.app-index c.app-item.result c.loop-app-test.true c.app-item.is)

@@ -1,16 +1,10 @@
 use Rattle.eos_commits.proofs.LogsInOrder.{in_order}
 use Rattle.eos_notes.proofs.BeforeOffset.{before_is}
-use Rattle.eos_notes.proofs.Whole.{notes_are, text_is, all_are, all_text_is}
+use Rattle.eos_notes.proofs.Whole.{all_are, all_text_is}
 use Rattle.eos_notes.proofs.laws.whole.Goals as goal
 
 pub returns-clause-order : goal.returns-clause-order
 returns-clause-order c = in_order
-
-pub returns-clause-notes : goal.returns-clause-notes
-returns-clause-notes c = notes_are
-
-pub returns-clause-text : goal.returns-clause-text
-returns-clause-text c = text_is
 
 pub returns-clause-all : goal.returns-clause-all
 returns-clause-all c = all_are

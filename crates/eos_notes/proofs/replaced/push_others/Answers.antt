@@ -5,9 +5,9 @@ use Rattle.eos_notes.proofs.replaced.push_others.Goals as goal
 
 pub loop-app-preserved : goal.loop-app-preserved
 loop-app-preserved c = λ order.
-    pushed_more (others_in c.args.parts.now c.args.epochs.now) _ _ _ c.args.apps.now c.loop-app.app-index c.app-item.result c.loop-app-test.true c.app-item.is
+    pushed_more (others_in c.args.logs.parts.now c.args.logs.epochs.now) _ _ _ c.args.apps.now c.loop-app.app-index c.app-item.result c.loop-app-test.true c.app-item.is
     (c.loop-app.invariant order) (c.in_ok-push_app.ensures order)
 
 pub push_app-requires : goal.push_app-requires
 push_app-requires c =
-    (c.args.apps.now, c.in_ok-table.ensures, item_has c.args.apps.now c.loop-app.app-index c.app-item.result c.loop-app-test.true c.app-item.is)
+    (c.args.apps.now, c.requires, item_has c.args.apps.now c.loop-app.app-index c.app-item.result c.loop-app-test.true c.app-item.is)

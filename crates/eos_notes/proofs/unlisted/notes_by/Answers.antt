@@ -9,12 +9,11 @@ use Rattle.eos_notes.proofs.UnlistedNotes.{one_more}
 use Rattle.eos_notes.proofs.unlisted.notes_by.Goals as goal
 
 pub loop-app-preserved : goal.loop-app-preserved
-loop-app-preserved c = λ ends perm.
-    let logs = c.args.parts.now in
+loop-app-preserved c = λ logs ends of perm.
     let apps = c.args.apps.now in
     let app = c.app-item.result in
     let has = item_has apps c.loop-app.app-index app c.loop-app-test.true c.app-item.is in
-    let commits : map plain_commit c.as_slice.result.now ≡ commits_for logs app = ap (λ (cs : List CommitRef). map plain_commit cs) c.as_slice.ensures.value ∙ c.in_ok-commits.ensures.commits apps logs c.in_ok-table.ensures has in
+    let commits : map plain_commit c.as_slice.result.now ≡ commits_for logs app = ap (λ (cs : List CommitRef). map plain_commit cs) c.as_slice.ensures.value ∙ c.in_ok-commits.ensures.commits apps logs of has in
     let p = c.in_ok-push_group.ensures ends perm in
     let are = subst (λ (cs : List Commit). AreUnlisted ends cs p.0) commits p.1 in
-    one_more ends logs apps c.loop-app.app-index app c.loop-app.all.items c.push_group.new.all.items p.0 c.loop-app-test.true c.app-item.is (c.loop-app.invariant ends perm) are p.2
+    one_more ends logs apps c.loop-app.app-index app c.loop-app.all.items c.push_group.new.all.items p.0 c.loop-app-test.true c.app-item.is (c.loop-app.invariant logs ends of perm) are p.2

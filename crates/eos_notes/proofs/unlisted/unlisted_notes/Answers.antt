@@ -7,7 +7,7 @@ use Rattle.eos_notes.specs.steps.Unlisted.{plain_name}
 use Rattle.eos_notes.proofs.unlisted.unlisted_notes.Goals as goal
 
 pub returns : goal.returns
-returns c =
+returns c = λ logs table.
     let moved = IsPermutation-map plain_name _ _ c.in_order-listed.ensures.same in
     let of = subst (λ (names : List PartitionName). IsPermutation names (map plain_name c.in_order-listed.result.items)) c.in_ok-names.ensures moved in
-    c.in_ok-all.ensures c.args.ends.now (subst (λ (names : List NameRef). IsPermutation (map end_name c.args.ends.now) (map plain_name names)) (sym c.as_slice.ensures.value) of)
+    c.in_ok-all.ensures logs c.args.ends.now table (subst (λ (names : List NameRef). IsPermutation (map end_name c.args.ends.now) (map plain_name names)) (sym c.as_slice.ensures.value) of)
