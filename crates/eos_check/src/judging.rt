@@ -10,12 +10,15 @@ ghost use Rattle.eos_evidence.specs.declared.application.App.{App};
 ghost use Rattle.eos_fold.specs.Parts.{PartLog};
 ghost use Rattle.eos_lineage.specs.Faults.{IsAnswer};
 ghost use Rattle.eos_kept.specs.Faults.{first_of};
+ghost use Rattle.eos_verdict.specs.declared.verdict.Fault.TheVariants.{Partition};
+ghost use Rattle.eos_verdict.specs.declared.verdict.Verdict.TheVariants.{No};
 ghost use Rattle.eos_table.specs.LogFaults.{log_cmp, Stands as StandsInLog};
 ghost use Rattle.eos_table.specs.TransactionLog.{transaction_parts, AreInOrder as LogInOrder, decisions_of};
 
 use crate::phases::{LogAnswer, copied, decided};
 use eos_base::Workers;
 use eos_evidence::Spec;
+use eos_fold::PartitionFault;
 use eos_kept::{Logs, Part};
 use eos_lineage::{LineageCounts, LineageFault, check_lineage_by};
 use eos_table::{is_of_transaction_log, txn_log};
@@ -25,6 +28,21 @@ use std::thread::{Threads, join};
 
 /// So many times as long as a record of another log keeps the lineage, one of the transaction log keeps its reading, about.
 const LONGER: u64 = 4;
+
+/// Logs of an evidence with this manifest, and at most how many threads judge them.
+#[derive(Clone, Copy)]
+pub struct Judging<'a> {
+    pub spec: &'a Spec,
+    pub logs: &'a Logs,
+    pub workers: Workers,
+}
+
+/// Logs of an evidence with this manifest, in which no partition has a fault.
+#[derive(Clone, Copy)]
+struct Sound<'a> {
+    spec: &'a Spec,
+    parts: &'a [Part],
+}
 
 /// What the lineage answers.
 type Lined = Result<Result<LineageCounts, LineageFault>, AllocError>;
@@ -56,30 +74,39 @@ fn others_of(parts: &[Part], workers: Workers) -> Option<Workers>
     Some(others)
 }
 
-/// What the transaction log and the lineage answer, at the same time: the first by the caller's thread, the second by so many others.
-fn side_by_side<R: Threads + Sync>(
+/// What the transaction log and the lineage answer, at the same time: the first by the caller's thread, the second by so many others,
+/// of which one does this work behind it.
+fn side_by_side<R: Threads + Sync, T: Send + Drop, W: FnOnce() -> T + Send>(
     alloc: Global,
     rt: &R,
-    spec: &Spec,
-    parts: &[Part],
+    sound: Sound<'_>,
     others: Workers,
-) -> (Result<LogAnswer, AllocError>, Lined)
-    ensures log { let log = transaction_parts parts.now in LogInOrder log → IfOk result.0 (λ answer. MatchResult answer
+    work: W,
+) -> (Result<LogAnswer, AllocError>, Lined, T)
+    requires { W.pre work }
+    ensures log { let log = transaction_parts sound.entry.parts.now in LogInOrder log → IfOk result.0 (λ answer. MatchResult answer
         (λ ds. NoneStands (StandsInLog log) × (ds.items ≡ decisions_of log)) (IsLeast log_cmp (StandsInLog log))) }
-    ensures lineage { AreInOrder parts.now → IfOk result.1 (IsAnswer spec.now.apps parts.now) }
+    ensures lineage { AreInOrder sound.entry.parts.now → IfOk result.1 (IsAnswer sound.entry.spec.now.apps sound.entry.parts.now) }
+    ensures work { W.post work result.2 }
 {
-    let (lineage, log) = join(
+    let Sound { spec, parts } = sound;
+    let ((lineage, worked), log) = join(
         rt,
-        || -> Lined
-            requires { IsSync R.row }
-            ensures { AreInOrder parts.entry.now → IfOk result (IsAnswer spec.entry.now.apps parts.entry.now) }
-        { check_lineage_by(alloc, rt, others, spec, parts) },
+        move || -> (Lined, T)
+            requires sync { IsSync R.row }
+            requires work { W.pre work }
+            ensures lineage { AreInOrder parts.entry.now → IfOk result.0 (IsAnswer spec.entry.now.apps parts.entry.now) }
+            ensures work { W.post work result.1 }
+        {
+            let lineage = check_lineage_by(alloc, rt, others, spec, parts);
+            (lineage, work())
+        },
         || -> Result<LogAnswer, AllocError>
             ensures { let log = transaction_parts parts.entry.now in LogInOrder log → IfOk result (λ answer. MatchResult answer
                 (λ ds. NoneStands (StandsInLog log) × (ds.items ≡ decisions_of log)) (IsLeast log_cmp (StandsInLog log))) }
         { txn_log(alloc, parts) },
     );
-    (log, lineage)
+    (log, lineage, worked)
 }
 
 /// The verdict of logs in which no partition, no transaction log and none of so many transactions has a fault, by what the lineage
@@ -134,20 +161,83 @@ fn judge_in_turn<R: Threads + Sync>(
     }
 }
 
-/// The same, the lineage by so many others while the transaction log is read.
-fn judge_beside<R: Threads + Sync>(
+/// The same by what the transaction log and the lineage answer.
+fn judge_both<R: Threads + Sync>(
     alloc: Global,
     rt: &R,
-    spec: &Spec,
-    parts: &[Part],
-    workers: (Workers, Workers),
+    sound: Sound<'_>,
+    workers: Workers,
+    answers: (Result<LogAnswer, AllocError>, Lined),
 ) -> Result<Verdict, AllocError>
-    ensures { IfOk result (λ verdict. AreInOrder parts.now → IsVerdictOver spec.now.apps parts.now verdict) }
+    requires log { let log = transaction_parts sound.parts.now in LogInOrder log → IfOk answers.0 (λ answer. MatchResult answer
+        (λ ds. NoneStands (StandsInLog log) × (ds.items ≡ decisions_of log)) (IsLeast log_cmp (StandsInLog log))) }
+    requires lineage { AreInOrder sound.parts.now → IfOk answers.1 (IsAnswer sound.spec.now.apps sound.parts.now) }
+    ensures { IfOk result (λ verdict. AreInOrder sound.entry.parts.now → IsVerdictOver sound.entry.spec.now.apps sound.entry.parts.now verdict) }
+{
+    let (log, lineage) = answers;
+    let transacted = decided(alloc, rt, log?, sound.parts, workers)?;
+    of_both(sound.spec, sound.parts, transacted, lineage)
+}
+
+/// The same, the lineage by so many others, and behind it this work, while the transaction log is read.
+fn judge_beside<R: Threads + Sync, T: Send + Drop, W: FnOnce() -> T + Send>(
+    alloc: Global,
+    rt: &R,
+    sound: Sound<'_>,
+    workers: (Workers, Workers),
+    work: W,
+) -> (Result<Verdict, AllocError>, T)
+    requires { W.pre work }
+    ensures verdict { IfOk result.0 (λ verdict. AreInOrder sound.entry.parts.now → IsVerdictOver sound.entry.spec.now.apps sound.entry.parts.now verdict) }
+    ensures work { W.post work result.1 }
 {
     let (all, others) = workers;
-    let (log, lineage) = side_by_side(alloc, rt, spec, parts, others);
-    let transacted = decided(alloc, rt, log?, parts, all)?;
-    of_both(spec, parts, transacted, lineage)
+    let (log, lineage, worked) = side_by_side(alloc, rt, sound, others, work);
+    let verdict = judge_both(alloc, rt, sound, all, (log, lineage));
+    (verdict, worked)
+}
+
+/// A no for the fault of a partition.
+fn no_of(fault: &PartitionFault) -> Result<Verdict, AllocError>
+    ensures { IfOk result (λ verdict. verdict ≡ No (Partition fault.now)) }
+{
+    Ok(Verdict::No(Fault::Partition(copied(fault)?)))
+}
+
+/// The verdict over these logs, as `judge` gives it, and what this work answers. Where the transaction log is long a thread that has
+/// looked at the lineage does the work meanwhile, and else the caller's does it last.
+///
+/// # Errors
+/// Only want of memory.
+pub fn judge_with<R: Threads + Sync, T: Send + Drop, W: FnOnce() -> T + Send>(
+    alloc: Global,
+    rt: &R,
+    judging: Judging<'_>,
+    work: W,
+) -> (Result<Verdict, AllocError>, T)
+    requires { W.pre work }
+    ensures verdict { IfOk result.0 (IsJudged judging.entry.spec.now.apps judging.entry.logs.now.parts.items (first_of judging.entry.logs.now.faults.items)) }
+    ensures work { W.post work result.1 }
+{
+    let Judging {
+        spec,
+        logs,
+        workers,
+    } = judging;
+    if let Some(fault) = logs.first_fault() {
+        return (no_of(fault), work());
+    }
+    let parts = logs.parts.as_slice();
+    match others_of(parts, workers) {
+        None => {
+            let verdict = judge_in_turn(alloc, rt, spec, parts, workers);
+            (verdict, work())
+        }
+        Some(others) => {
+            let sound = Sound { spec, parts };
+            judge_beside(alloc, rt, sound, (workers, others), work)
+        }
+    }
 }
 
 /// The verdict over these logs, whole or kept, of an evidence of this spec: the first of the faults that stand beside them, or
@@ -165,12 +255,11 @@ pub fn judge<R: Threads + Sync>(
 ) -> Result<Verdict, AllocError>
     ensures { IfOk result (IsJudged spec.now.apps logs.now.parts.items (first_of logs.now.faults.items)) }
 {
-    if let Some(fault) = logs.first_fault() {
-        return Ok(Verdict::No(Fault::Partition(copied(fault)?)));
-    }
-    let parts = logs.parts.as_slice();
-    match others_of(parts, workers) {
-        None => judge_in_turn(alloc, rt, spec, parts, workers),
-        Some(others) => judge_beside(alloc, rt, spec, parts, (workers, others)),
-    }
+    let judging = Judging {
+        spec,
+        logs,
+        workers,
+    };
+    let (verdict, _nothing) = judge_with(alloc, rt, judging, || {});
+    verdict
 }

@@ -16,6 +16,6 @@ mod tied_evidence;
 mod workers;
 
 pub use eos_verdict::{Counts, Fault, Verdict};
-pub use judging::judge;
+pub use judging::{Judging, judge, judge_with};
 pub use one_thread::{check_one, verdict_of};
 pub use workers::{check, logs_of};

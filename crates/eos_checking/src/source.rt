@@ -4,12 +4,12 @@
 ghost use Rattle.std.specs.Prelude.{◌≡◌, ◌==◌, true, not, List, length, IfOk, IfErr, is_some, string_bytes, alloc_error};
 ghost use Rattle.eos_verdict.specs.declared.verdict.Fault.{Fault};
 ghost use Rattle.eos_commits.specs.Faults.{AreInOrder};
-ghost use Rattle.eos_notes.specs.Lines.{IsAllNotesTextBy};
 ghost use Rattle.eos_notes.specs.Notes.{AreAllNotesBy};
 ghost use Rattle.eos_kept.specs.Faults.{first_of};
 ghost use Rattle.eos_source.specs.Said.{known_by};
 ghost use Rattle.eos_source.specs.Refusals.{AreOpened, IsRefusal};
 ghost use Rattle.eos_source.specs.FirstRefusals.{pieces_of};
+ghost use Rattle.eos_source_check.specs.Judged.{IsNotesTextOf};
 ghost use Rattle.eos_source_check.specs.Refusals.{IsEarned, IsUntold};
 ghost use Rattle.eos_checking.specs.Dates.{IsDated};
 ghost use Rattle.eos_checking.specs.Sources.{IsSourceAnswer, IsListAnswer};
@@ -21,9 +21,9 @@ use crate::report::{Timed, Told, made_of};
 use crate::terms::{exit_status, unmet_text};
 use eos_check::{Fault, Verdict};
 use eos_evidence::{Evidence, Spec};
-use eos_notes::{Note, all_lines, all_notes};
+use eos_notes::{Note, all_notes};
 use eos_source::Source;
-use eos_source_check::{Judged, Unlisted, all_source_faults, judge_source};
+use eos_source_check::{By, Judged, Noted, Unlisted, all_source_faults, judge_noted};
 use eos_words::Demands;
 use std::alloc::{AllocError, Global};
 use std::slice;
@@ -107,17 +107,13 @@ fn notes_of(alloc: Global, spec: &Spec, judged: &Judged) -> Result<Vec<Note>, Al
     all_notes(alloc, spec, &judged.logs, judged.epochs.as_slice())
 }
 
-/// The lines of these notes, or nothing where they are left out.
-fn note_lines_of(
-    alloc: Global,
-    spec: &Spec,
-    judged: &Judged,
-    quiet: bool,
-) -> Result<String, AllocError>
-    ensures { AreInOrder judged.now.logs.parts.items
-        → IfOk result (λ text. IsAllNotesTextBy spec.now judged.now.logs.parts.items judged.now.epochs.items (is_some (first_of judged.now.logs.faults.items)) quiet (string_bytes text)) }
+/// The lines of the notes of what was judged.
+fn lines_again(spec: &Spec, noted: &Noted, quiet: bool) -> Result<String, AllocError>
+    requires { IsNotesTextOf spec.now noted.now.judged quiet (string_bytes noted.now.notes) }
+    ensures { IfOk result (λ text. IsNotesTextOf spec.now noted.now.judged quiet (string_bytes text)) }
 {
-    all_lines(alloc, spec, &judged.logs, judged.epochs.as_slice(), quiet)
+    let text = noted.notes.clone()?;
+    Ok(text)
 }
 
 /// Whether a note stands, where that counts.
@@ -151,15 +147,17 @@ fn status_of(
 fn told<T: Timed>(
     alloc: Global,
     spec: &Spec,
-    judged: &Judged,
+    noted: &Noted,
     faults: Faults<'_>,
     asked: &Asked<'_, T>,
 ) -> Result<SourceAnswer, AllocError>
-    ensures told { IfOk result (TellsOf spec.now judged.now faults.entry.told.now asked.now.subject asked.now.json faults.entry.all asked.now.quiet asked.now.terms asked.now.report) }
+    requires { IsNotesTextOf spec.now noted.now.judged asked.now.quiet (string_bytes noted.now.notes) }
+    ensures told { IfOk result (TellsOf spec.now noted.now.judged faults.entry.told.now asked.now.subject asked.now.json faults.entry.all asked.now.quiet asked.now.terms asked.now.report) }
     ensures dated { IfOk result (λ answer. HasDates asked.now.report faults.entry.told.now faults.entry.dates.now answer.report) }
 {
+    let judged = &noted.judged;
     let lines = lines_told(alloc, &judged.verdict, faults, asked)?;
-    let notes = note_lines_of(alloc, spec, judged, asked.quiet)?;
+    let notes = lines_again(spec, noted, asked.quiet)?;
     let status = status_of(alloc, spec, judged, asked.terms.demands)?;
     let unmet = unmet_text(alloc, asked.terms, &judged.verdict)?;
     let report = report_on(alloc, spec, judged, faults, asked)?;
@@ -170,6 +168,16 @@ fn told<T: Timed>(
         unmet,
         report,
     })
+}
+
+/// By how many workers it is judged, and whether the notes are left out.
+fn by_of<T>(asked: &Asked<'_, T>) -> By
+    ensures { result.quiet ≡ asked.now.quiet }
+{
+    By {
+        workers: asked.workers,
+        quiet: asked.quiet,
+    }
 }
 
 /// The answer to an evidence of this shape, whose pieces are read from the source, each once and by at most so many threads. No more
@@ -190,15 +198,15 @@ pub fn answer_source<S: Source, T: Timed, R: Threads + Sync>(
     ensures opened { IfOk result (λ answer. AreOpened (S.outcomes pieces.entry.source.now) (pieces_of pieces.entry.shape.now)) }
     ensures refused { IfErr result (IsRefusal (S.outcomes pieces.entry.source.now) (S.Fault.from_gives alloc_error) (pieces_of pieces.entry.shape.now)) }
 {
-    let judged = judge_source(alloc, rt, pieces.source, pieces.shape, asked.workers)?;
-    let first = faults_of(&judged.verdict);
+    let noted = judge_noted(alloc, rt, pieces.source, pieces.shape, by_of(asked))?;
+    let first = faults_of(&noted.judged.verdict);
     let dates = dates_if(alloc, &pieces, first, asked.report)?;
     let faults = Faults {
         told: first,
         all: false,
         dates: &dates,
     };
-    let answer = told(alloc, pieces.shape.spec(), &judged, faults, asked)?;
+    let answer = told(alloc, pieces.shape.spec(), &noted, faults, asked)?;
     Ok(answer)
 }
 
@@ -221,15 +229,16 @@ fn listed_of<S: Source>(
 fn all_told<S: Source, T: Timed>(
     alloc: Global,
     pieces: &Pieces<'_, S>,
-    judged: &Judged,
+    noted: &Noted,
     asked: &Asked<'_, T>,
 ) -> Result<SourceAnswer, Unlisted<S::Fault>>
-    ensures answer { IfOk result (λ answer. (faults : List Fault) × AreListed (known_by (S.said pieces.now.source.now) (S.is_log pieces.now.source.now)) pieces.now.shape.now judged.now judged.now.verdict faults
-        × TellsOf pieces.now.shape.now.spec judged.now faults asked.now.subject asked.now.json true asked.now.quiet asked.now.terms asked.now.report answer) }
+    requires { IsNotesTextOf pieces.now.shape.now.spec noted.now.judged asked.now.quiet (string_bytes noted.now.notes) }
+    ensures answer { IfOk result (λ answer. (faults : List Fault) × AreListed (known_by (S.said pieces.now.source.now) (S.is_log pieces.now.source.now)) pieces.now.shape.now noted.now.judged noted.now.judged.verdict faults
+        × TellsOf pieces.now.shape.now.spec noted.now.judged faults asked.now.subject asked.now.json true asked.now.quiet asked.now.terms asked.now.report answer) }
     ensures dated { IfOk result (λ answer. IsDated (known_by (S.said pieces.now.source.now) (S.is_log pieces.now.source.now)) pieces.now.shape.now.partitions asked.now.report answer.report) }
-    ensures earned { IfErr result (IsEarned (known_by (S.said pieces.now.source.now) (S.is_log pieces.now.source.now)) (S.outcomes pieces.now.source.now) pieces.now.shape.now.partitions judged.now.logs.faults.items) }
+    ensures earned { IfErr result (IsEarned (known_by (S.said pieces.now.source.now) (S.is_log pieces.now.source.now)) (S.outcomes pieces.now.source.now) pieces.now.shape.now.partitions noted.now.judged.logs.faults.items) }
 {
-    let list = listed_of(alloc, pieces, judged)?;
+    let list = listed_of(alloc, pieces, &noted.judged)?;
     let found = list.as_slice();
     let dates = dates_if(alloc, pieces, found, asked.report)?;
     let faults = Faults {
@@ -237,7 +246,7 @@ fn all_told<S: Source, T: Timed>(
         all: true,
         dates: &dates,
     };
-    let answer = told(alloc, pieces.shape.spec(), judged, faults, asked)?;
+    let answer = told(alloc, pieces.shape.spec(), noted, faults, asked)?;
     Ok(answer)
 }
 
@@ -258,9 +267,9 @@ pub fn answer_all<S: Source, T: Timed, R: Threads + Sync>(
     ensures opened { IfOk result (λ answer. AreOpened (S.outcomes pieces.entry.source.now) (pieces_of pieces.entry.shape.now)) }
     ensures refused { IfErr result (IsUntold (S.outcomes pieces.entry.source.now) (S.Fault.from_gives alloc_error) (pieces_of pieces.entry.shape.now) true) }
 {
-    match judge_source(alloc, rt, pieces.source, pieces.shape, asked.workers) {
-        Ok(judged) => {
-            let answer = all_told(alloc, &pieces, &judged, asked)?;
+    match judge_noted(alloc, rt, pieces.source, pieces.shape, by_of(asked)) {
+        Ok(noted) => {
+            let answer = all_told(alloc, &pieces, &noted, asked)?;
             Ok(answer)
         }
         Err(fault) => Err(Unlisted::Refused(fault)),

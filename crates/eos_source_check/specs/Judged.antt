@@ -1,18 +1,21 @@
 -- The verdict that is worked out of kept logs: there is what each piece said, and it is the verdict of each evidence of this shape
 -- whose segments are such; these are what is wanted of its logs, this is what is counted of its segments, and these are the offsets at
 -- which their leader epochs change.
-use Rattle.std.specs.Prelude.{◌≡◌, ℕ, List}
+use Rattle.std.specs.Prelude.{◌≡◌, ℕ, List, Bool, is_some}
 use Rattle.eos_evidence.specs.Evidence.{EvidenceParts, IsEvidence}
+use Rattle.eos_evidence.specs.SpecFields.{SpecFields}
 use Rattle.eos_fold.specs.Parts.{PartLog}
 use Rattle.eos_commits.specs.EvidenceLogs.{AreLogsOf}
+use Rattle.eos_commits.specs.Faults.{AreInOrder}
 use Rattle.eos_check.specs.Verdicts.{IsVerdict}
 use Rattle.eos_kept.specs.Parts.{HaveEpochs}
-use Rattle.eos_kept.specs.Faults.{AreFaultsIn}
+use Rattle.eos_kept.specs.Faults.{AreFaultsIn, first_of}
 use Rattle.eos_kept.specs.declared.logs.Logs.{Logs}
 use Rattle.eos_reading.specs.Wanted.{wanted_logs}
 use Rattle.eos_source.specs.Said.{Known}
 use Rattle.eos_source.specs.Shapes.{HoldsAsSaid}
 use Rattle.eos_notes.specs.Counts.{AreCounted}
+use Rattle.eos_notes.specs.Lines.{IsAllNotesTextBy}
 use Rattle.eos_source_check.specs.declared.judged.Judged.{Judged}
 
 -- what is wanted of the logs of this evidence, each with its least fault
@@ -33,3 +36,8 @@ pub record IsJudgedFor (judged : Judged) (evidence : EvidenceParts) : Type 0 whe
 -- so it is with each evidence of this shape whose segments are such as the pieces said
 abbrev pub IsJudgedOf : (ℕ → Known) → EvidenceParts → Judged → Type 0
 IsJudgedOf known shape judged = HoldsAsSaid known shape (IsJudgedFor judged)
+
+-- the lines of the notes on what was judged of an evidence with this manifest, or nothing where they are left out
+abbrev pub IsNotesTextOf : SpecFields → Judged → Bool → List ℕ → Type 0
+IsNotesTextOf spec judged quiet text = AreInOrder judged.logs.parts.items
+    → IsAllNotesTextBy spec judged.logs.parts.items judged.epochs.items (is_some (first_of judged.logs.faults.items)) quiet text

@@ -1,14 +1,15 @@
 //! The verdict of an evidence of which a source has the pieces.
 
-ghost use Rattle.std.specs.Prelude.{IfOk, IfErr, length, alloc_error};
+ghost use Rattle.std.specs.Prelude.{IfOk, IfErr, length, string_bytes, alloc_error};
 ghost use Rattle.eos_evidence.specs.Evidence.{segments_of};
 ghost use Rattle.eos_source.specs.Refusals.{AreOpened, IsRefusal};
 ghost use Rattle.eos_source.specs.Said.{known_by};
-ghost use Rattle.eos_source_check.specs.Judged.{IsJudgedOf};
+ghost use Rattle.eos_source_check.specs.Judged.{IsJudgedOf, IsNotesTextOf};
 
 use crate::kept::apart;
+use crate::noting::{By, Read, verdict_and_notes};
 use eos_base::{Listed, Workers};
-use eos_check::{Verdict, judge};
+use eos_check::Verdict;
 use eos_evidence::Evidence;
 use eos_kept::Logs;
 use eos_notes::Counted;
@@ -27,12 +28,53 @@ pub struct Judged {
     pub verdict: Verdict,
 }
 
+/// What was judged, with the lines of the notes, or nothing where these were left out.
+#[derive(Drop)]
+pub struct Noted {
+    pub judged: Judged,
+    pub notes: String,
+}
+
 /// The verdict of an evidence of this shape, whose pieces are read from the source, each once and by at most so many threads, and
 /// never held whole: in memory is what is wanted of the records. There is what each piece said, as far as it is known just that;
-/// and this is the verdict, and these are the kept logs, of each evidence of this shape whose segments are such.
+/// and this is the verdict, and these are the kept logs, of each evidence of this shape whose segments are such. The notes are told of
+/// these logs.
 ///
 /// # Errors
 /// The fault of the first piece, in order, that isn't there, or is a fold that doesn't fit; or want of memory.
+pub fn judge_noted<S: Source, R: Threads + Sync>(
+    alloc: Global,
+    rt: &R,
+    source: &S,
+    shape: &Evidence,
+    by: By,
+) -> Result<Noted, S::Fault>
+    ensures judged { IfOk result (λ noted. IsJudgedOf (known_by (S.said source.now) (S.is_log source.now)) shape.now noted.judged) }
+    ensures notes { IfOk result (λ noted. IsNotesTextOf shape.now.spec noted.judged by.quiet (string_bytes noted.notes)) }
+    ensures opened { IfOk result (λ noted. AreOpened (S.outcomes source.now) (length (segments_of shape.now.partitions))) }
+    ensures refused { IfErr result (IsRefusal (S.outcomes source.now) (S.Fault.from_gives alloc_error) (length (segments_of shape.now.partitions))) }
+{
+    let kept = kept_logs(alloc, rt, source, shape, by.workers)?;
+    let (logs, counted, epochs) = apart(alloc, kept)?;
+    let read = Read {
+        spec: shape.spec(),
+        logs: &logs,
+        epochs: epochs.as_slice(),
+    };
+    let (verdict, notes) = verdict_and_notes(alloc, rt, read, by)?;
+    let judged = Judged {
+        logs,
+        counted,
+        epochs,
+        verdict,
+    };
+    Ok(Noted { judged, notes })
+}
+
+/// The same without notes.
+///
+/// # Errors
+/// Those of `judge_noted`.
 pub fn judge_source<S: Source, R: Threads + Sync>(
     alloc: Global,
     rt: &R,
@@ -44,13 +86,10 @@ pub fn judge_source<S: Source, R: Threads + Sync>(
     ensures opened { IfOk result (λ judged. AreOpened (S.outcomes source.now) (length (segments_of shape.now.partitions))) }
     ensures refused { IfErr result (IsRefusal (S.outcomes source.now) (S.Fault.from_gives alloc_error) (length (segments_of shape.now.partitions))) }
 {
-    let kept = kept_logs(alloc, rt, source, shape, workers)?;
-    let (logs, counted, epochs) = apart(alloc, kept)?;
-    let verdict = judge(alloc, rt, shape.spec(), &logs, workers)?;
-    Ok(Judged {
-        logs,
-        counted,
-        epochs,
-        verdict,
-    })
+    let by = By {
+        workers,
+        quiet: true,
+    };
+    let noted = judge_noted(alloc, rt, source, shape, by)?;
+    Ok(noted.judged)
 }

@@ -1,16 +1,22 @@
-use Rattle.std.proofs.Common.{true, List, subst}
+use Rattle.std.proofs.Common.{true, List, string_bytes, subst, sym}
 use Rattle.std.proofs.lemmas.Result.{err_from_is_err_and}
 use Rattle.eos_verdict.specs.declared.verdict.Fault.{Fault}
 use Rattle.eos_evidence.specs.SpecFields.{SpecFields}
 use Rattle.eos_source.specs.Said.{known_by}
 use Rattle.eos_checking.proofs.Dated.{dated}
 use Rattle.eos_checking.specs.steps.Tellings.{TellsOf}
+use Rattle.eos_source_check.specs.Judged.{IsNotesTextOf}
 use Rattle.eos_checking.proofs.source.all_told.Goals as goal
+
+pub told-requires : goal.told-requires
+told-requires g c =
+    let noted = c.args.noted.now in
+    subst (λ (s : SpecFields). IsNotesTextOf s noted.judged c.args.asked.now.quiet (string_bytes noted.notes)) (sym c.spec.ensures.value) c.requires
 
 pub returns-clause-answer : goal.returns-clause-answer
 returns-clause-answer g c =
     let asked = c.args.asked.now in
-    let judged = c.args.judged.now in
+    let judged = c.args.noted.now.judged in
     let tells = subst (λ (s : SpecFields). TellsOf s judged c.as_slice-found.result.now asked.subject asked.json true asked.quiet asked.terms asked.report c.in_ok-answer.answer) c.spec.ensures.value c.in_ok-answer.ensures.told in
     let of_list = subst (λ (fs : List Fault). TellsOf c.args.pieces.now.shape.now.spec judged fs asked.subject asked.json true asked.quiet asked.terms asked.report c.in_ok-answer.answer) c.as_slice-found.ensures.value tells in
     (c.in_ok-list.list.items, c.in_ok-list.ensures.list, of_list)
