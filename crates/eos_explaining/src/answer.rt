@@ -43,6 +43,13 @@ pub enum Answer {
     Fewer(u64),
 }
 
+/// An evidence, and what was judged of it.
+#[derive(Clone, Copy)]
+pub(crate) struct Judgement<'a> {
+    pub(crate) evidence: &'a Evidence,
+    pub(crate) judged: &'a Judged,
+}
+
 /// How many faults an evidence has, the line that says of which kinds, those that are held, each as the verdict that names it, and the
 /// notes.
 #[derive(Drop)]
@@ -133,6 +140,55 @@ fn told_of_number(
     Ok(story)
 }
 
+/// The answer where the verdict is no: the story of the fault of this number, or how many there are.
+fn told_no<G: Gate>(
+    alloc: Global,
+    rt: &(impl Threads + Wait + Sync),
+    judgement: Judgement<'_>,
+    asked: &Asked<'_>,
+    gate: &G,
+) -> Result<Answer, AllocError>
+    requires { IsJudgedFor judgement.judged.now judgement.evidence.now }
+    ensures { IfOk result (IsAnswer asked.now.folder.now judgement.entry.evidence.now asked.now.number) }
+{
+    let Judgement { evidence, judged } = judgement;
+    let number = asked.number;
+    let pick = Pick {
+        from: number.saturating_sub(1),
+        most: 1,
+    };
+    let found = found_in(alloc, evidence, judged, pick)?;
+    let count = found.all;
+    if number == 0 || number > count {
+        return Ok(Answer::Fewer(count));
+    }
+    let whole = whole_logs(alloc, rt, evidence, asked.workers, gate)?;
+    let scene = Scene {
+        alloc,
+        evidence,
+        logs: seen_of(evidence, judged, whole.as_ref()),
+    };
+    let story = told_of_number(&scene, asked.folder, &found, number)?;
+    Ok(Answer::Story(story))
+}
+
+/// The answer to an evidence that was judged.
+fn answer_of<G: Gate>(
+    alloc: Global,
+    rt: &(impl Threads + Wait + Sync),
+    judgement: Judgement<'_>,
+    asked: &Asked<'_>,
+    gate: &G,
+) -> Result<Answer, AllocError>
+    requires { IsJudgedFor judgement.judged.now judgement.evidence.now }
+    ensures { IfOk result (IsAnswer asked.now.folder.now judgement.entry.evidence.now asked.now.number) }
+{
+    match yes_of(alloc, judgement.evidence, judgement.judged)? {
+        Some(answer) => Ok(answer),
+        None => told_no(alloc, rt, judgement, asked, gate),
+    }
+}
+
 /// The story of a fault of the evidence, of this number in the list of all, from 1 on; or the line of a yes, or how many faults
 /// there are. The verdict, the list and the records of the story are worked out of what is kept of its logs, as by `check`, and of the list
 /// only that fault is held; where batches stand, and what headers say, is read of the bytes again. Only where a partition's topic is named
@@ -150,25 +206,9 @@ pub fn explain<G: Gate>(
     ensures { IfOk result (IsAnswer asked.now.folder.now evidence.now asked.now.number) }
 {
     let judged = judge_evidence(alloc, rt, evidence, asked.workers)?;
-    if let Some(answer) = yes_of(alloc, evidence, &judged)? {
-        return Ok(answer);
-    }
-    let number = asked.number;
-    let pick = Pick {
-        from: number.saturating_sub(1),
-        most: 1,
-    };
-    let found = found_in(alloc, evidence, &judged, pick)?;
-    let count = found.all;
-    if number == 0 || number > count {
-        return Ok(Answer::Fewer(count));
-    }
-    let whole = whole_logs(alloc, rt, evidence, asked.workers, gate)?;
-    let scene = Scene {
-        alloc,
+    let judgement = Judgement {
         evidence,
-        logs: seen_of(evidence, &judged, whole.as_ref()),
+        judged: &judged,
     };
-    let story = told_of_number(&scene, asked.folder, &found, number)?;
-    Ok(Answer::Story(story))
+    answer_of(alloc, rt, judgement, asked, gate)
 }

@@ -10,11 +10,12 @@ ghost use Rattle.eos_disk.specs.Shapes.{AreKnown};
 ghost use Rattle.eos_evidence.specs.Evidence.{EvidenceParts};
 ghost use Rattle.eos_notes.specs.Notes.{AreAllNotes};
 ghost use Rattle.eos_source.specs.Saying.{StandsAt};
+ghost use Rattle.eos_source_check.specs.Judged.{IsJudgedFor};
 ghost use Rattle.eos_explaining.specs.Refused.{IsFirstOfWhole};
 ghost use Rattle.eos_explaining.specs.FirstStories.{AreStoriesOf, AreFirstStories};
 ghost use Rattle.eos_explaining.specs.steps.Found.{AreFindings, AreItsSeen};
 
-use crate::answer::{Findings, found_in};
+use crate::answer::{Findings, Judgement, found_in};
 use crate::folder::Folder;
 use crate::kinds::Pick;
 use crate::seen::{seen_of, whole_logs};
@@ -80,6 +81,32 @@ fn of_findings(
     Ok(texts)
 }
 
+/// The stories of the first faults of an evidence that was judged.
+fn stories_of<G: Gate>(
+    alloc: Global,
+    rt: &(impl Threads + Wait + Sync),
+    judgement: Judgement<'_>,
+    first: &First<'_>,
+    gate: &G,
+) -> Result<Vec<String>, AllocError>
+    requires { IsJudgedFor judgement.judged.now judgement.evidence.now }
+    ensures { IfOk result (λ texts. AreFirstStories first.now.folder.now judgement.entry.evidence.now first.now.most (map string_bytes texts.items)) }
+{
+    let Judgement { evidence, judged } = judgement;
+    let pick = Pick {
+        from: 0,
+        most: first.most as u64,
+    };
+    let found = found_in(alloc, evidence, judged, pick)?;
+    let whole = whole_logs(alloc, rt, evidence, first.workers, gate)?;
+    let scene = Scene {
+        alloc,
+        evidence,
+        logs: seen_of(evidence, judged, whole.as_ref()),
+    };
+    of_findings(&scene, first.folder, &found, pick.most)
+}
+
 /// The stories of the first faults of the evidence, in the order of the list of all; so many, or all where there are fewer. The workers
 /// pass the gate.
 ///
@@ -95,18 +122,11 @@ pub fn first_stories_of<G: Gate>(
     ensures { IfOk result (λ texts. AreFirstStories first.now.folder.now evidence.now first.now.most (map string_bytes texts.items)) }
 {
     let judged = judge_evidence(alloc, rt, evidence, first.workers)?;
-    let pick = Pick {
-        from: 0,
-        most: first.most as u64,
-    };
-    let found = found_in(alloc, evidence, &judged, pick)?;
-    let whole = whole_logs(alloc, rt, evidence, first.workers, gate)?;
-    let scene = Scene {
-        alloc,
+    let judgement = Judgement {
         evidence,
-        logs: seen_of(evidence, &judged, whole.as_ref()),
+        judged: &judged,
     };
-    of_findings(&scene, first.folder, &found, pick.most)
+    stories_of(alloc, rt, judgement, first, gate)
 }
 
 /// The stories of the first faults of the evidence in a folder of a disk. It is read whole, once, by at most so many threads; a yes has
