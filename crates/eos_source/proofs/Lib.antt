@@ -1,3 +1,4 @@
+mod PartitionsShared
 mod PartitionsTold
 mod PiecesDrawn
 mod PiecesJoined

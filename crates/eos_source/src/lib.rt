@@ -18,6 +18,7 @@ mod piece;
 mod plan;
 mod reader;
 mod seats;
+mod share;
 mod slots;
 mod source;
 mod told;
