@@ -1,5 +1,5 @@
 -- An unskipped record that stands apart from those before it shows no fault against them.
-use Rattle.std.proofs.Common.{◌≡◌, ◌<◌, ◌+◌, ℕ, ℤ, List, [], ◌∷◌, ◌++◌, length, get_or, take, Option, Some, None, Bool, true, false, not, ◌||◌, if◌then◌else◌, cond, refl, sym, ap, subst, ◌∙◌, append_assoc, arith}
+use Rattle.std.proofs.Common.{◌≡◌, ℕ, ℤ, List, [], ◌∷◌, ◌++◌, Option, Some, None, Bool, true, false, not, ◌||◌, if◌then◌else◌, cond, refl, sym, ap, subst, ◌∙◌, append_assoc, arith}
 use Rattle.std.specs.Prelude.{int_lt}
 use Rattle.std.specs.Option.{option_map}
 use Rattle.std.specs.Map.{lookup}
@@ -22,7 +22,6 @@ use Rattle.eos_table.specs.steps.Doubled.{AreHomes, lesser_home, home_in, split_
 use Rattle.eos_table.specs.steps.Apart.{Homes, Owners, home_at, owner_at, owner_of, ids_of, IsHome, Fits}
 use Rattle.eos_table.proofs.LogTables.{same, is_equal}
 use Rattle.eos_table.proofs.DoubledTables.{homes_more}
-use Rattle.eos_table.proofs.DoubledMore.{passed_more}
 
 inside : {X : Type 0} (a b : X) → Some a ≡ Some b → a ≡ b
 inside a b e = cc
@@ -180,15 +179,10 @@ none_fits owners homes a b = record {
     nothing : (o : Owner) → None ≡ Some o → ⊥
     nothing o e = cc
 
-doubled_last : (before xs : List Mark) (t : Mark) → doubled_after before (xs ++ t ∷ []) ≡ doubled_after before xs ++ doubled_at (before ++ xs) t
+pub doubled_last : (before xs : List Mark) (t : Mark) → doubled_after before (xs ++ t ∷ []) ≡ doubled_after before xs ++ doubled_at (before ++ xs) t
 doubled_last before [] t = append-nil (doubled_at before t) ∙ ap (λ z. doubled_at z t) (sym (append-nil before))
 doubled_last before (x ∷ xs) t =
     let here = doubled_at before x in
     let later = doubled_after (before ++ x ∷ []) xs in
     ap (λ (fs : List LogFault). here ++ fs) (doubled_last (before ++ x ∷ []) xs t)
     ∙ (ap (λ z. here ++ (later ++ doubled_at z t)) (append_assoc before (x ∷ []) xs) ∙ sym (append_assoc here later (doubled_at (before ++ x ∷ xs) t)))
-
-pub apart_more : (marks : List Mark) (i : ℕ) (m : Mark) → i < length marks → m ≡ get_or marks i m → doubled_after [] (take i marks) ≡ [] → doubled_at (take i marks) m ≡ [] → doubled_after [] (take (i + 1) marks) ≡ []
-apart_more marks i m lt is so_far here =
-    ap (doubled_after []) (sym (passed_more marks i m lt is))
-    ∙ (doubled_last [] (take i marks) m ∙ (ap (λ (fs : List LogFault). fs ++ doubled_at (take i marks) m) so_far ∙ here))

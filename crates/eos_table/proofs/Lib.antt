@@ -34,3 +34,4 @@ pub mod KeptDeciders
 pub mod TablesShown
 pub mod KnownTexts
 pub mod SameSets
+pub mod SharedValues

@@ -20,8 +20,10 @@ use Rattle.eos_verdict.specs.declared.log_fault.LogFaultKind.{LogFaultKind}
 use Rattle.eos_verdict.specs.declared.log_fault.LogFaultKind.TheVariants.{BadRecord, Step, SplitId, SharedProducer, Unfinished}
 use Rattle.eos_table.specs.TransactionLog.{Id, same_id, State, nothing, flat, update, Unskipped, content_of, step_at, next_state, steps_after, state_after, steps_of, all_steps, last_of, is_unfinished, AreInOrder}
 use Rattle.eos_table.specs.LogFaults.{StandsAs, Stands, log_cmp}
-use Rattle.eos_table.specs.steps.LogCandidates.{LogRead, after, unread, fault_at, bad_at, refused_at, step_faults, faults_at, faults_after, mark_of, open_at, part_faults, Faults, taken}
+use Rattle.eos_table.specs.steps.LogCandidates.{LogRead, after, unread, none_found, fault_at, bad_at, refused_at, step_faults, faults_at, faults_after, mark_of, open_at, part_faults, Faults, taken}
+use Rattle.eos_table.specs.declared.held.Holding.TheVariants.{Each, Apart}
 use Rattle.eos_table.specs.steps.Doubled.{doubled_after, gathered}
+use Rattle.eos_table.specs.steps.Held.{Readout, Shows}
 use Rattle.eos_table.proofs.LogOrder.{log_total, log_exact}
 use Rattle.eos_table.proofs.LogTables.{same}
 use Rattle.eos_table.proofs.DoubledFaults.{doubled_sound, split_whole, shared_whole}
@@ -217,35 +219,47 @@ module _ (log : List PartLog) (are : AreInOrder log) where
 
 -- ---- what is kept of it
 
-abbrev only_least : Option LogFault → Faults
-only_least best = record { keeps_all = false; least = best; all = [] }
+abbrev with_least : Option LogFault → Faults
+with_least best = record { keeps_all = false; least = best; all = [] }
 
-abbrev every : List LogFault → Faults
-every faults = record { keeps_all = true; least = None; all = faults }
+abbrev with_all : List LogFault → Faults
+with_all faults = record { keeps_all = true; least = None; all = faults }
 
-least_kept : (fs : List LogFault) (best : Option LogFault) → (fold taken (only_least best) fs).least ≡ fold (lesser_of log_cmp) best fs
+least_kept : (fs : List LogFault) (best : Option LogFault) → (fold taken (with_least best) fs).least ≡ fold (lesser_of log_cmp) best fs
 least_kept [] best = refl
 least_kept (f ∷ fs) best = least_kept fs (lesser_of log_cmp best f)
 
-all_kept : (fs before : List LogFault) → (fold taken (every before) fs).all ≡ before ++ fs
+all_kept : (fs before : List LogFault) → (fold taken (with_all before) fs).all ≡ before ++ fs
 all_kept [] before = sym (append-nil before)
 all_kept (f ∷ fs) before = all_kept fs (before ++ f ∷ []) ∙ append_assoc before (f ∷ []) fs
 
 -- where all is kept, it is what is gathered
-pub judged_all : (log : List PartLog) (first last : Faults) (found : List LogFault) → first ≡ every [] → last ≡ fold taken first (gathered log) → found ≡ last.all → found ≡ gathered log
-judged_all log first last found start is e =
-    e ∙ (ap (λ (z : Faults). z.all) is ∙ (ap (λ (z : Faults). (fold taken z (gathered log)).all) start ∙ all_kept (gathered log) []))
+pub judged_all : (log : List PartLog) (last : Faults) (found : List LogFault) → last ≡ fold taken (none_found true) (gathered log) → found ≡ last.all → found ≡ gathered log
+judged_all log last found is e = e ∙ (ap (λ (z : Faults). z.all) is ∙ all_kept (gathered log) [])
 
 -- where only the least is kept, it is the least that stands
-pub judged_least : (log : List PartLog) → AreInOrder log → (first last : Faults) (best : Option LogFault) → first ≡ only_least None → last ≡ fold taken first (gathered log) → best ≡ last.least
+pub judged_least : (log : List PartLog) → AreInOrder log → (last : Faults) (best : Option LogFault) → last ≡ fold taken (none_found false) (gathered log) → best ≡ last.least
     → IsLeastOrNone log_cmp (Stands log) best
-judged_least log are first last best start is e = least_by_candidates log_total log_exact (Stands log) (gathered log)
+judged_least log are last best is e = least_by_candidates log_total log_exact (Stands log) (gathered log)
     (λ f h. (f, sound log are f h, upto_itself log_total f)) (λ g st. (g, all_whole log are g st, upto_itself log_total g)) best
-    (e ∙ (ap (λ (z : Faults). z.least) is ∙ (ap (λ (z : Faults). (fold taken z (gathered log)).least) start ∙ least_kept (gathered log) None)))
+    (e ∙ (ap (λ (z : Faults). z.least) is ∙ least_kept (gathered log) None))
 
 -- ---- the one pass after the other
 
-pub judged : (log : List PartLog) (first last : Faults) (r : LogRead) → r ≡ after (unread first) (all_steps log) (flat_map part_faults log)
-    → last ≡ fold taken r.faults (doubled_after [] r.marks) → last ≡ fold taken first (gathered log)
-judged log first last r read e =
-    e ∙ (ap (λ (z : LogRead). fold taken z.faults (doubled_after [] z.marks)) read ∙ sym (fold-append taken first (flat_map part_faults log) (doubled_after [] (map mark_of (all_steps log)))))
+abbrev alone : List PartLog → List LogFault
+alone log = flat_map part_faults log
+
+abbrev all_read : Faults → List PartLog → LogRead
+all_read first log = after (unread first) (all_steps log) (alone log)
+
+pub judged_each : (log : List PartLog) (first last : Faults) (q : Readout) → Shows Each q (all_read first log)
+    → last ≡ fold taken q.faults (doubled_after [] q.held.marks.items) → last ≡ fold taken first (gathered log)
+judged_each log first last q shows e =
+    let t = shows.tells (shows.each refl) in
+    e ∙ (ap (λ (z : Faults). fold taken z (doubled_after [] q.held.marks.items)) t.0 ∙ (ap (λ ms. fold taken (fold taken first (alone log)) (doubled_after [] ms)) t.1
+    ∙ sym (fold-append taken first (alone log) (doubled_after [] (map mark_of (all_steps log))))))
+
+pub judged_apart : (log : List PartLog) (first : Faults) (q : Readout) → Shows Apart q (all_read first log) → q.held.holding ≡ Apart → q.faults ≡ fold taken first (gathered log)
+judged_apart log first q shows is =
+    let t = shows.tells is in
+    t.0 ∙ ap (fold taken first) (sym (ap (λ (fs : List LogFault). alone log ++ fs) t.2 ∙ append-nil (alone log)))

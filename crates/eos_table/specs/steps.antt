@@ -9,3 +9,5 @@ pub mod Apart
 pub mod Known
 pub mod Deciders
 pub mod Shown
+pub mod Held
+pub mod Reads

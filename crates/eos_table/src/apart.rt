@@ -5,12 +5,12 @@ ghost use Rattle.std.specs.Prelude.{◌≡◌, ℕ, List, ◌∷◌, [], ◌++�
 ghost use Rattle.std.specs.Ordering.{nat_cmp, is_eq};
 ghost use Rattle.eos_table.specs.TransactionLog.{Id, same_id};
 ghost use Rattle.eos_table.specs.declared.mark.Mark.{Mark};
-ghost use Rattle.eos_table.specs.steps.Doubled.{doubled_at, doubled_after};
+ghost use Rattle.eos_table.specs.steps.Doubled.{doubled_at};
 ghost use Rattle.eos_table.specs.steps.Apart.{home_at, owner_at, owner_of, IsHome, Fits};
 
 use crate::mark::Mark;
 use bytes::Bytes;
-use std::alloc::{AllocError, Global};
+use std::alloc::AllocError;
 use std::collections::BTreeMap;
 
 /// The transactional id of a producer id, and its partition.
@@ -20,10 +20,11 @@ pub(crate) struct Owner {
     pub partition: i32,
 }
 
-type Owners = BTreeMap<u64, Owner>;
+/// The transactional id of each producer id.
+pub(crate) type Owners = BTreeMap<u64, Owner>;
 
 /// The partition of each transactional id.
-type Homes = BTreeMap<Bytes, i32>;
+pub(crate) type Homes = BTreeMap<Bytes, i32>;
 
 fn is_of(owner: &Owner, mark: &Mark) -> bool
     ensures id { result ≡ true → owner.now.id ≡ mark.now.id }
@@ -106,7 +107,11 @@ fn take_owned(
 }
 
 /// Takes up a record, and tells whether it stands apart from those before.
-fn take_mark(owners: &mut Owners, homes: &mut Homes, mark: &Mark) -> Result<bool, AllocError>
+pub(crate) fn take_mark(
+    owners: &mut Owners,
+    homes: &mut Homes,
+    mark: &Mark,
+) -> Result<bool, AllocError>
     ensures { (before : List Mark) → Fits owners.old homes.old before
         → IfOk result (λ yes. yes ≡ true → Fits owners.new homes.new (before ++ mark.now ∷ []) × (doubled_at before mark.now ≡ [])) }
 {
@@ -114,18 +119,4 @@ fn take_mark(owners: &mut Owners, homes: &mut Homes, mark: &Mark) -> Result<bool
         None => is_at_home(homes, mark),
         Some(producer) => take_owned(owners, homes, producer, mark),
     }
-}
-
-/// Whether all of them stand apart, so that none shows a fault against those before it. No says nothing.
-pub(crate) fn are_apart(alloc: Global, marks: &[Mark]) -> Result<bool, AllocError>
-    ensures { IfOk result (λ yes. yes ≡ true → doubled_after [] marks.now ≡ []) }
-{
-    let mut owners = BTreeMap::new(alloc);
-    let mut homes = BTreeMap::new(alloc);
-    for mark in marks {
-        if !take_mark(&mut owners, &mut homes, mark)? {
-            return Ok(false);
-        }
-    }
-    Ok(true)
 }

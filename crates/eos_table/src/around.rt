@@ -3,10 +3,10 @@
 ghost use Rattle.std.specs.Prelude.{◌≡◌, true, IfSome};
 ghost use Rattle.eos_wire.specs.FieldWriting.{section_text};
 ghost use Rattle.eos_txnlog.specs.Status.{status_number};
-ghost use Rattle.eos_table.specs.steps.Known.{version_of, with_set, IsAround};
+ghost use Rattle.eos_table.specs.steps.Known.{version_of, IsAround};
 
 use eos_base::Listed;
-use eos_txnlog::{Partitions, Status, TxnValue};
+use eos_txnlog::{Status, TxnValue};
 use eos_wire::{Fields, Form, are_bytes};
 use std::alloc::Global;
 
@@ -114,19 +114,4 @@ pub(crate) fn fields_around(alloc: Global, value: &[u8]) -> Option<Around<'_>>
         start,
     };
     Some(Around { form, text, bare })
-}
-
-/// The value with these partitions in the place of its own.
-pub(crate) fn with_set(bare: TxnValue, partitions: Partitions) -> TxnValue
-    ensures { result ≡ with_set bare partitions }
-{
-    TxnValue {
-        producer: bare.producer,
-        epoch: bare.epoch,
-        timeout: bare.timeout,
-        status: bare.status,
-        partitions,
-        last_update: bare.last_update,
-        start: bare.start,
-    }
 }

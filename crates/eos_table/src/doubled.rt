@@ -10,7 +10,6 @@ ghost use Rattle.eos_table.specs.declared.mark.Mark.{Mark};
 ghost use Rattle.eos_table.specs.steps.LogCandidates.{taken};
 ghost use Rattle.eos_table.specs.steps.Doubled.{AreHomes, AreIds, home_in, lesser_home, with_id, split_at, shared_if, shared_at, doubled_after};
 
-use crate::apart::are_apart;
 use crate::log_faults::LogFaults;
 use crate::mark::{Mark, Place};
 use bytes::Bytes;
@@ -136,7 +135,7 @@ fn take_producer(
     Ok(())
 }
 
-/// Takes up what the records show against those before them. Each is held against them only where they don't all stand apart.
+/// Takes up what the records show against those before them.
 pub(crate) fn push_doubled(
     alloc: Global,
     faults: &mut LogFaults,
@@ -144,9 +143,6 @@ pub(crate) fn push_doubled(
 ) -> Result<(), AllocError>
     ensures { OnOk result (faults.new ≡ fold taken faults.old (doubled_after [] marks.now)) }
 {
-    if are_apart(alloc, marks)? {
-        return Ok(());
-    }
     let mut homes = BTreeMap::new(alloc);
     let mut producers = BTreeMap::new(alloc);
     for mark in marks {

@@ -5,10 +5,14 @@ ghost use Rattle.std.specs.Prelude.{◌≡◌, true, Some, Ok, IfOk, IfSome};
 ghost use Rattle.std.specs.Option.{option_map};
 ghost use Rattle.eos_txnlog.specs.Reading.{read_key, read_value};
 ghost use Rattle.eos_table.specs.TransactionLog.{content_of, content_of_value};
+ghost use Rattle.std.specs.Arc.{arc_value};
 ghost use Rattle.eos_table.specs.steps.Known.{IsSetText};
+ghost use Rattle.eos_table.specs.steps.Reads.{content_read};
 
-use crate::around::{Around, fields_around, is_same, version_of, with_set};
-use crate::content::{Content, read_id, read_state};
+use crate::around::{Around, fields_around, is_same, version_of};
+use crate::content::{read_id, read_state};
+use crate::shared::Sets;
+use crate::value::SharedValue;
 use bytes::Bytes;
 use eos_base::RecordFault;
 use eos_kept::ItemRef;
@@ -16,9 +20,18 @@ use eos_txnlog::{Partitions, TxnValue, encode_value};
 use eos_wire::{Form, crc32c};
 use std::alloc::{AllocError, Global};
 use std::marker::Model;
+use std::sync::Arc;
 
 /// At most so many of either are kept.
 const MOST: u64 = 16384;
+
+/// What a record says, as `Content` says it, with shared partitions.
+#[derive(Drop)]
+pub(crate) enum Read {
+    Unreadable(RecordFault),
+    Other,
+    Of(Bytes, Option<SharedValue>),
+}
 
 /// A key that was read.
 #[derive(Drop)]
@@ -66,29 +79,35 @@ impl KnownKey {
 struct KnownSet {
     form: Form,
     text: Vec<u8>,
-    set: Partitions,
+    set: Arc<Partitions, Global>,
 }
 
 impl Model for KnownSet {
     ghost use Rattle.std.specs.Prelude.{List};
+    ghost use Rattle.std.specs.Arc.{arc_value};
     ghost use Rattle.eos_txnlog.specs.declared.partitions.TopicPartitions.{TopicPartitions};
     ghost use Rattle.eos_table.specs.steps.Known.{IsSetText};
 
     ghost Value = { List TopicPartitions };
 
-    ghost view = { λ k. k.set };
+    ghost view = { λ k. arc_value k.set };
 
-    ghost invariant = { λ k. IsSetText k.form k.text.items k.set };
+    ghost invariant = { λ k. IsSetText k.form k.text.items (arc_value k.set) };
 }
 
 impl KnownSet {
-    fn new(alloc: Global, form: Form, text: &[u8], set: &Partitions) -> Result<KnownSet, AllocError>
-        requires { IsSetText form text.now set.now }
+    fn new(
+        alloc: Global,
+        form: Form,
+        text: &[u8],
+        set: &Arc<Partitions, Global>,
+    ) -> Result<KnownSet, AllocError>
+        requires { IsSetText form text.now (arc_value set.now) }
     {
         Ok(KnownSet {
             form,
             text: copied(alloc, text)?,
-            set: set.clone()?,
+            set: Arc::try_clone(set)?,
         })
     }
 
@@ -98,10 +117,10 @@ impl KnownSet {
         is_same(self.form, form) && self.text.as_slice() == text
     }
 
-    fn set(&self) -> Result<Partitions, AllocError>
-        ensures { IfOk result (λ set. set ≡ self.now) }
+    fn set(&self) -> Result<Arc<Partitions, Global>, AllocError>
+        ensures { IfOk result (λ set. arc_value set ≡ self.now) }
     {
-        self.set.clone()
+        Ok(Arc::try_clone(&self.set)?)
     }
 }
 
@@ -128,6 +147,7 @@ fn slot_of(bytes: &[u8], slots: usize) -> usize {
 pub(crate) struct Known {
     keys: Vec<Option<KnownKey>>,
     sets: Vec<Option<KnownSet>>,
+    shared: Sets,
 }
 
 impl Known {
@@ -139,7 +159,8 @@ impl Known {
             keys.push(None)?;
             sets.push(None)?;
         }
-        Ok(Known { keys, sets })
+        let shared = Sets::new(alloc, slots)?;
+        Ok(Known { keys, sets, shared })
     }
 
     fn known_id(&self, key: &[u8]) -> Result<Option<Bytes>, AllocError>
@@ -183,8 +204,12 @@ impl Known {
         Ok(read)
     }
 
-    fn known_set(&self, form: Form, text: &[u8]) -> Result<Option<Partitions>, AllocError>
-        ensures { IfOk result (λ found. IfSome found (λ set. IsSetText form text.now set)) }
+    fn known_set(
+        &self,
+        form: Form,
+        text: &[u8],
+    ) -> Result<Option<Arc<Partitions, Global>>, AllocError>
+        ensures { IfOk result (λ found. IfSome found (λ set. IsSetText form text.now (arc_value set))) }
     {
         let Some(Some(known)) = self.sets.get(slot_of(text, self.sets.len())) else {
             return Ok(None);
@@ -195,7 +220,7 @@ impl Known {
         Ok(Some(known.set()?))
     }
 
-    fn known_value(&self, alloc: Global, value: &[u8]) -> Result<Option<TxnValue>, AllocError>
+    fn known_value(&self, alloc: Global, value: &[u8]) -> Result<Option<SharedValue>, AllocError>
         ensures { IfOk result (λ found. IfSome found (λ state. read_value value.now ≡ Ok state)) }
     {
         let Some(Around { form, text, bare }) = fields_around(alloc, value) else {
@@ -203,7 +228,7 @@ impl Known {
         };
         match self.known_set(form, text)? {
             None => Ok(None),
-            Some(set) => Ok(Some(with_set(bare, set))),
+            Some(set) => Ok(Some(SharedValue::new(bare, set))),
         }
     }
 
@@ -212,9 +237,9 @@ impl Known {
         alloc: Global,
         form: Form,
         text: &[u8],
-        set: &Partitions,
+        set: &Arc<Partitions, Global>,
     ) -> Result<(), AllocError>
-        requires { IsSetText form text.now set.now }
+        requires { IsSetText form text.now (arc_value set.now) }
     {
         let known = KnownSet::new(alloc, form, text, set)?;
         let place = slot_of(text, self.sets.len());
@@ -230,7 +255,10 @@ impl Known {
         alloc: Global,
         form: Form,
         state: &TxnValue,
-    ) -> Result<(), AllocError> {
+        set: &Arc<Partitions, Global>,
+    ) -> Result<(), AllocError>
+        requires { arc_value set.now ≡ state.now.partitions }
+    {
         let written = match encode_value(alloc, state, version_of(form)) {
             Ok(written) => written,
             Err(RecordFault::OutOfMemory) => return Err(AllocError),
@@ -249,20 +277,23 @@ impl Known {
         if !is_same(found, form) {
             return Ok(());
         }
-        self.keep_set(alloc, form, text, &state.partitions)
+        self.keep_set(alloc, form, text, set)
     }
 
-    /// Keeps the partitions of a value that was read.
+    /// A value that was read, whose partitions are kept and shared.
     fn keep_value(
         &mut self,
         alloc: Global,
         value: &[u8],
-        state: &TxnValue,
-    ) -> Result<(), AllocError> {
-        match fields_around(alloc, value) {
-            None => Ok(()),
-            Some(Around { form, .. }) => self.keep_written(alloc, form, state),
+        state: TxnValue,
+    ) -> Result<SharedValue, AllocError>
+        ensures { IfOk result (λ kept. kept ≡ state) }
+    {
+        let set = self.shared.shared(&state.partitions)?;
+        if let Some(Around { form, .. }) = fields_around(alloc, value) {
+            self.keep_written(alloc, form, &state, &set)?;
         }
+        Ok(SharedValue::new(state, set))
     }
 
     /// Reads a value whose partitions aren't known, and keeps them.
@@ -270,14 +301,13 @@ impl Known {
         &mut self,
         alloc: Global,
         value: &[u8],
-    ) -> Result<Result<TxnValue, RecordFault>, AllocError>
+    ) -> Result<Result<SharedValue, RecordFault>, AllocError>
         ensures { IfOk result (λ read. read ≡ read_value value.now) }
     {
-        let read = read_state(alloc, value)?;
-        if let Ok(state) = &read {
-            self.keep_value(alloc, value, state)?;
+        match read_state(alloc, value)? {
+            Ok(state) => Ok(Ok(self.keep_value(alloc, value, state)?)),
+            Err(fault) => Ok(Err(fault)),
         }
-        Ok(read)
     }
 
     /// Reads a value.
@@ -285,7 +315,7 @@ impl Known {
         &mut self,
         alloc: Global,
         value: &[u8],
-    ) -> Result<Result<TxnValue, RecordFault>, AllocError>
+    ) -> Result<Result<SharedValue, RecordFault>, AllocError>
         ensures { IfOk result (λ read. read ≡ read_value value.now) }
     {
         match self.known_value(alloc, value)? {
@@ -299,29 +329,29 @@ impl Known {
         alloc: Global,
         id: Bytes,
         value: Option<&[u8]>,
-    ) -> Result<Content, AllocError>
-        ensures { IfOk result (λ content. content ≡ content_of_value id (option_map (λ s. s.now) value.entry)) }
+    ) -> Result<Read, AllocError>
+        ensures { IfOk result (λ read. content_read read ≡ content_of_value id (option_map (λ s. s.now) value.entry)) }
     {
         let Some(bytes) = value else {
-            return Ok(Content::Of(id, None));
+            return Ok(Read::Of(id, None));
         };
         match self.state_of(alloc, bytes)? {
-            Ok(state) => Ok(Content::Of(id, Some(state))),
-            Err(fault) => Ok(Content::Unreadable(fault)),
+            Ok(state) => Ok(Read::Of(id, Some(state))),
+            Err(fault) => Ok(Read::Unreadable(fault)),
         }
     }
 
     /// Reads a data record of the transaction log.
-    pub fn read(&mut self, alloc: Global, item: &ItemRef<'_>) -> Result<Content, AllocError>
-        ensures { IfOk result (λ content. content ≡ content_of item.now) }
+    pub fn read(&mut self, alloc: Global, item: &ItemRef<'_>) -> Result<Read, AllocError>
+        ensures { IfOk result (λ read. content_read read ≡ content_of item.now) }
     {
         let Some(key) = item.key() else {
-            return Ok(Content::Unreadable(RecordFault::Short));
+            return Ok(Read::Unreadable(RecordFault::Short));
         };
         match self.id_of(alloc, key)? {
             Ok(Some(id)) => self.read_of_id(alloc, id, item.value()),
-            Ok(None) => Ok(Content::Other),
-            Err(fault) => Ok(Content::Unreadable(fault)),
+            Ok(None) => Ok(Read::Other),
+            Err(fault) => Ok(Read::Unreadable(fault)),
         }
     }
 }

@@ -2,7 +2,10 @@
 
 ghost use Rattle.std.specs.Prelude.{◌≡◌};
 ghost use Rattle.std.specs.Option.{option_copied, option_map};
-ghost use Rattle.eos_table.specs.TransactionLog.{flat, state_of, kind_of_status, is_unfinished, is_transaction_part};
+ghost use Rattle.std.specs.BTreeMap.{get};
+ghost use Rattle.std.specs.Ordering.{nat_cmp};
+ghost use Rattle.std.specs.Cmp.Lexicographic.{slice_cmp};
+ghost use Rattle.eos_table.specs.TransactionLog.{state_of, kind_of_status, is_transaction_part};
 
 use bytes::Bytes;
 use eos_batch::Kind;
@@ -13,9 +16,12 @@ use std::collections::BTreeMap;
 /// The value of the last unskipped record of each transactional id of a partition; none is a tombstone.
 pub type LastValues = BTreeMap<Bytes, Option<TxnValue>>;
 
-/// The last value of this transactional id; none where it has none yet.
-pub fn last_value<'a>(last: &'a LastValues, id: &Bytes) -> Option<Option<&'a TxnValue>>
-    ensures { option_map option_copied result ≡ state_of last.entry.now id.now }
+/// The last value of this transactional id, of whichever form; none where it has none yet.
+pub(crate) fn last_of<'a, V>(
+    last: &'a BTreeMap<Bytes, Option<V>>,
+    id: &Bytes,
+) -> Option<Option<&'a V>>
+    ensures { option_map option_copied result ≡ get (slice_cmp nat_cmp) last.entry.now id.now }
 {
     match last.get(id) {
         None => None,
@@ -23,14 +29,11 @@ pub fn last_value<'a>(last: &'a LastValues, id: &Bytes) -> Option<Option<&'a Txn
     }
 }
 
-/// Whether a transaction of this id goes on, or its end isn't written.
-pub(crate) fn is_open(last: &LastValues, id: &Bytes) -> bool
-    ensures { result ≡ is_unfinished (flat (state_of last.now id.now)) }
+/// The last value of this transactional id; none where it has none yet.
+pub fn last_value<'a>(last: &'a LastValues, id: &Bytes) -> Option<Option<&'a TxnValue>>
+    ensures { option_map option_copied result ≡ state_of last.entry.now id.now }
 {
-    match last.get(id) {
-        Some(Some(value)) => value.status.is_open(),
-        _ => false,
-    }
+    last_of(last, id)
 }
 
 /// What a record of this status decides: a Prepare record alone decides.

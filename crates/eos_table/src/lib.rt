@@ -9,6 +9,7 @@ mod best;
 mod content;
 mod decided;
 mod doubled;
+mod held;
 mod key;
 mod known;
 mod last_values;
@@ -31,6 +32,7 @@ mod shard;
 mod shared;
 mod table;
 mod transaction_log;
+mod value;
 mod wanted;
 
 pub use content::{Content, read_content};

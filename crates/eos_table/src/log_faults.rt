@@ -1,7 +1,7 @@
 //! The faults of the transaction log as they are found: all are kept, or only the least.
 
-ghost use Rattle.std.specs.Prelude.{◌≡◌, [], None, true, false, OnOk};
-ghost use Rattle.eos_table.specs.steps.LogCandidates.{fault_at, taken};
+ghost use Rattle.std.specs.Prelude.{◌≡◌, OnOk};
+ghost use Rattle.eos_table.specs.steps.LogCandidates.{fault_at, none_found, taken};
 
 use crate::mark::Place;
 use eos_base::offer;
@@ -37,23 +37,12 @@ fn fault_at(place: Place, kind: LogFaultKind) -> LogFault
 }
 
 impl LogFaults {
-    /// Of those to come only the least is kept.
-    pub fn only_least(alloc: Global) -> LogFaults
-        ensures { result ≡ record { keeps_all = false; least = None; all = [] } }
+    /// None was found yet. Of those to come all are kept, or the least.
+    pub fn new(alloc: Global, keeps_all: bool) -> LogFaults
+        ensures { result ≡ none_found keeps_all }
     {
         LogFaults {
-            keeps_all: false,
-            least: None,
-            all: Vec::new(alloc),
-        }
-    }
-
-    /// All of those to come are kept.
-    pub fn every(alloc: Global) -> LogFaults
-        ensures { result ≡ record { keeps_all = true; least = None; all = [] } }
-    {
-        LogFaults {
-            keeps_all: true,
+            keeps_all,
             least: None,
             all: Vec::new(alloc),
         }

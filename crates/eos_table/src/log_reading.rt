@@ -1,45 +1,38 @@
 //! One pass over the records of the transaction log.
 
-ghost use Rattle.std.specs.Prelude.{◌≡◌, [], ◌∷◌, ◌++◌, fold, unsigned_abs, OnOk, IfOk};
+ghost use Rattle.std.specs.Prelude.{◌≡◌, List, [], ◌∷◌, ◌++◌, drop, fold, unsigned_abs, OnOk, IfOk};
 ghost use Rattle.std.specs.List.{flat_map};
 ghost use Rattle.std.specs.Option.{option_copied};
 ghost use Rattle.eos_table.specs.TransactionLog.{content_of, state_of, step_at, steps_after, steps_of, all_steps, next_state, state_after, decision_between, transaction_parts};
 ghost use Rattle.eos_table.specs.declared.content.Content.TheVariants.{Of};
-ghost use Rattle.eos_table.specs.steps.LogCandidates.{after, unread, taken, open_at, step_faults, faults_at, faults_after, part_faults, step_of};
+ghost use Rattle.eos_table.specs.declared.held.Holding.TheVariants.{Each, Apart};
+ghost use Rattle.eos_table.specs.declared.mark.Mark.{Mark};
+ghost use Rattle.eos_table.specs.steps.LogCandidates.{after, unread, taken, open_at, step_faults, faults_at, faults_after, part_faults, producer_of, step_of};
+ghost use Rattle.eos_table.specs.steps.Held.{readout, Shows, Takes};
 
-use crate::content::Content;
-use crate::known::{Known, slots_for};
-use crate::last_values::{LastValues, is_of_transaction_log, is_open, kind_of_status, last_value};
+use crate::held::{Held, Holding};
+use crate::known::{Known, Read, slots_for};
+use crate::last_values::{is_of_transaction_log, kind_of_status, last_of};
 use crate::log_faults::LogFaults;
 use crate::mark::{Mark, Place, producer_of};
-use crate::settled::are_settled;
-use crate::shared::{Sets, SharedDecision};
+use crate::settled::{are_settled, is_open};
+use crate::shared::SharedDecision;
+use crate::value::{SharedValue, SharedValues, is_shared_skipped, shared_step_ok};
 use bytes::Bytes;
 use eos_kept::{ItemRef, Part};
-use eos_txnlog::{TxnValue, is_skipped, step_ok};
 use eos_verdict::LogFaultKind;
 use std::alloc::{AllocError, Global};
 use std::collections::BTreeMap;
-use std::marker::Model;
 
 /// What was read of the log.
 #[derive(Drop)]
 pub(crate) struct LogReading {
-    /// Its unskipped records.
-    pub marks: Vec<Mark>,
+    /// What is held of its unskipped records.
+    pub held: Held,
     pub decisions: Vec<SharedDecision>,
-    /// The faults that a record or the end of a partition shows by itself.
+    /// The faults that a record or the end of a partition shows by itself, as long as what was asked for is held.
     pub faults: LogFaults,
     known: Known,
-    sets: Sets,
-}
-
-impl Model for LogReading {
-    ghost use Rattle.eos_table.specs.steps.LogCandidates.{LogRead};
-
-    ghost Value = { LogRead };
-
-    ghost view = { λ r. record { marks = r.marks.items; decisions = r.decisions.items; faults = r.faults } };
 }
 
 /// A record of a transactional id: where it stands, and its value; none is a tombstone.
@@ -47,26 +40,57 @@ impl Model for LogReading {
 struct TxnRecord {
     place: Place,
     id: Bytes,
-    value: Option<TxnValue>,
+    value: Option<SharedValue>,
 }
 
 /// Puts what a record decides at the end.
 fn push_decision(
     decisions: &mut Vec<SharedDecision>,
-    sets: &mut Sets,
     id: &Bytes,
-    before: Option<&TxnValue>,
-    value: Option<&TxnValue>,
+    before: Option<&SharedValue>,
+    value: Option<&SharedValue>,
 ) -> Result<(), AllocError>
     ensures { OnOk result (decisions.new.items ≡ decisions.old.items ++ decision_between id.now (option_copied before.entry) (option_copied value.entry)) }
 {
     let (Some(before), Some(value)) = (before, value) else {
         return Ok(());
     };
-    let Some(kind) = kind_of_status(value.status) else {
+    let Some(kind) = kind_of_status(value.status()) else {
         return Ok(());
     };
-    decisions.push(sets.decision(id, before, value, kind)?)?;
+    decisions.push(SharedDecision::between(id, before, value, kind)?)?;
+    Ok(())
+}
+
+/// A record, as later ones are held against it.
+fn mark_at(place: Place, id: &Bytes, value: Option<&SharedValue>) -> Result<Mark, AllocError>
+    ensures { IfOk result (λ mark. mark ≡ record { partition = place.partition; offset = place.offset; id = id.now; producer = producer_of (option_copied value.entry) }) }
+{
+    Ok(Mark {
+        partition: place.partition,
+        offset: place.offset,
+        id: id.clone()?,
+        producer: producer_of(value),
+    })
+}
+
+/// Takes up the fault of a record that may not follow the one of its id before it.
+fn push_refused(
+    faults: &mut LogFaults,
+    place: Place,
+    id: &Bytes,
+    before: Option<&SharedValue>,
+    value: Option<&SharedValue>,
+) -> Result<(), AllocError>
+    ensures { OnOk result (faults.new ≡ fold taken faults.old (step_faults (step_of place.partition place.offset id.now (option_copied before.entry) (option_copied value.entry)))) }
+{
+    if let Err(why) = shared_step_ok(before, value) {
+        let kind = LogFaultKind::Step {
+            id: id.clone()?,
+            why,
+        };
+        faults.take(place, kind)?;
+    }
     Ok(())
 }
 
@@ -75,26 +99,16 @@ fn take_step(
     reading: &mut LogReading,
     place: Place,
     id: &Bytes,
-    before: Option<&TxnValue>,
-    value: Option<&TxnValue>,
+    before: Option<&SharedValue>,
+    value: Option<&SharedValue>,
 ) -> Result<(), AllocError>
     ensures { let step = step_of place.partition place.offset id.now (option_copied before.entry) (option_copied value.entry) in
-        OnOk result (reading.new ≡ after reading.old (step ∷ []) (step_faults step)) }
+        OnOk result (Takes (readout reading.old) (readout reading.new) (step ∷ []) (step_faults step)) }
 {
-    push_decision(&mut reading.decisions, &mut reading.sets, id, before, value)?;
-    if let Err(why) = step_ok(before, value) {
-        let kind = LogFaultKind::Step {
-            id: id.clone()?,
-            why,
-        };
-        reading.faults.take(place, kind)?;
-    }
-    reading.marks.push(Mark {
-        partition: place.partition,
-        offset: place.offset,
-        id: id.clone()?,
-        producer: producer_of(value),
-    })?;
+    push_decision(&mut reading.decisions, id, before, value)?;
+    push_refused(&mut reading.faults, place, id, before, value)?;
+    let mark = mark_at(place, id, value)?;
+    reading.held.take(mark)?;
     Ok(())
 }
 
@@ -102,17 +116,17 @@ fn take_step(
 fn take_value(
     alloc: Global,
     reading: &mut LogReading,
-    last: &mut LastValues,
+    last: &mut SharedValues,
     written: TxnRecord,
 ) -> Result<(), AllocError>
     ensures read { let content = Of written.id written.value in
-        OnOk result (reading.new ≡ after reading.old (step_at (state_of last.old) written.place.partition written.place.offset content) (faults_at (state_of last.old) written.place.partition written.place.offset content)) }
+        OnOk result (Takes (readout reading.old) (readout reading.new) (step_at (state_of last.old) written.place.partition written.place.offset content) (faults_at (state_of last.old) written.place.partition written.place.offset content)) }
     ensures last { OnOk result (state_of last.new ≡ next_state (state_of last.old) (Of written.id written.value)) }
 {
     let TxnRecord { place, id, value } = written;
-    let before = last_value(last, &id);
+    let before = last_of(last, &id);
     let next = value.as_ref();
-    if is_skipped(alloc, before, next)? {
+    if is_shared_skipped(alloc, before, next)? {
         return Ok(());
     }
     take_step(reading, place, &id, before.flatten(), next)?;
@@ -123,11 +137,11 @@ fn take_value(
 fn take_record(
     alloc: Global,
     reading: &mut LogReading,
-    last: &mut LastValues,
+    last: &mut SharedValues,
     part: &Part,
     item: &ItemRef<'_>,
 ) -> Result<(), AllocError>
-    ensures read { OnOk result (reading.new ≡ after reading.old (step_at (state_of last.old) part.now.number item.now.offset (content_of item.now)) (faults_at (state_of last.old) part.now.number item.now.offset (content_of item.now))) }
+    ensures read { OnOk result (Takes (readout reading.old) (readout reading.new) (step_at (state_of last.old) part.now.number item.now.offset (content_of item.now)) (faults_at (state_of last.old) part.now.number item.now.offset (content_of item.now))) }
     ensures last { OnOk result (state_of last.new ≡ next_state (state_of last.old) (content_of item.now)) }
 {
     let place = Place {
@@ -135,12 +149,12 @@ fn take_record(
         offset: item.offset(),
     };
     match reading.known.read(alloc, item)? {
-        Content::Unreadable(record) => {
+        Read::Unreadable(record) => {
             let kind = LogFaultKind::BadRecord { record };
             reading.faults.take(place, kind)
         }
-        Content::Other => Ok(()),
-        Content::Of(id, value) => {
+        Read::Other => Ok(()),
+        Read::Of(id, value) => {
             let written = TxnRecord { place, id, value };
             take_value(alloc, reading, last, written)
         }
@@ -150,10 +164,10 @@ fn take_record(
 fn take_records(
     alloc: Global,
     reading: &mut LogReading,
-    last: &mut LastValues,
+    last: &mut SharedValues,
     part: &Part,
 ) -> Result<(), AllocError>
-    ensures read { OnOk result (reading.new ≡ after reading.old (steps_after (state_of last.old) part.now.number part.now.items) (faults_after (state_of last.old) part.now.number part.now.items)) }
+    ensures read { OnOk result (Takes (readout reading.old) (readout reading.new) (steps_after (state_of last.old) part.now.number part.now.items) (faults_after (state_of last.old) part.now.number part.now.items)) }
     ensures last { OnOk result (state_of last.new ≡ state_after (state_of last.old) part.now.items) }
 {
     let mut items = part.items().cursor();
@@ -176,7 +190,7 @@ fn end_of(part: &Part) -> Place
 
 fn push_open_id(
     faults: &mut LogFaults,
-    last: &LastValues,
+    last: &SharedValues,
     mark: &Mark,
     end: Place,
 ) -> Result<(), AllocError>
@@ -191,46 +205,71 @@ fn push_open_id(
     Ok(())
 }
 
-/// Takes up what is left unfinished at the end of a partition. Its records are looked at only where something is.
-fn push_open(
+fn push_open_ids(
     faults: &mut LogFaults,
-    last: &LastValues,
+    last: &SharedValues,
     marks: &[Mark],
     end: Place,
 ) -> Result<(), AllocError>
     ensures { OnOk result (faults.new ≡ fold taken faults.old (flat_map (open_at (state_of last.now) end.partition end.offset) marks.now)) }
 {
-    if are_settled(last) {
-        return Ok(());
-    }
     for mark in marks {
         push_open_id(faults, last, mark, end)?;
     }
     Ok(())
 }
 
+/// Takes up what is left unfinished at the end of a partition, whose records are those after so many. They are looked at only where
+/// something is; where they aren't each held, what is held is given up.
+fn push_open(
+    faults: &mut LogFaults,
+    held: &mut Held,
+    last: &SharedValues,
+    from: usize,
+    end: Place,
+) -> Result<(), AllocError>
+    ensures each { held.old.holding ≡ Each → OnOk result ((held.new ≡ held.old) × (faults.new ≡ fold taken faults.old (flat_map (open_at (state_of last.now) end.partition end.offset) (drop from held.old.marks.items)))) }
+    ensures apart { OnOk result (held.new.holding ≡ Apart → (held.new ≡ held.old)
+        × ((marks : List Mark) → faults.new ≡ fold taken faults.old (flat_map (open_at (state_of last.now) end.partition end.offset) marks))) }
+{
+    if are_settled(last) {
+        return Ok(());
+    }
+    match held.holding {
+        Holding::Each => push_open_ids(faults, last, held.since(from), end),
+        Holding::Apart | Holding::Nothing => {
+            held.holding = Holding::Nothing;
+            Ok(())
+        }
+    }
+}
+
 impl LogReading {
-    /// Nothing is read, and the faults to come are kept so.
-    fn new(alloc: Global, faults: LogFaults, known: Known, sets: Sets) -> LogReading
-        ensures { result ≡ unread faults }
+    /// Nothing is read, and the records and faults to come are held and kept so.
+    fn new(
+        alloc: Global,
+        held: Held,
+        faults: LogFaults,
+        slots: u64,
+    ) -> Result<LogReading, AllocError>
+        ensures { IfOk result (λ r. (r.held ≡ held) × (r.decisions.items ≡ []) × (r.faults ≡ faults)) }
     {
-        LogReading {
-            marks: Vec::new(alloc),
+        Ok(LogReading {
+            held,
             decisions: Vec::new(alloc),
             faults,
-            known,
-            sets,
-        }
+            known: Known::new(alloc, slots)?,
+        })
     }
 
     /// Takes up a partition of the log.
     fn take_part(&mut self, alloc: Global, part: &Part) -> Result<(), AllocError>
-        ensures { OnOk result (self.new ≡ after self.old (steps_of part.now) (part_faults part.now)) }
+        ensures { OnOk result (Takes (readout self.old) (readout self.new) (steps_of part.now) (part_faults part.now)) }
     {
-        let from = self.marks.as_slice().len();
+        let from = self.held.marks.len();
         let mut last = BTreeMap::new(alloc);
         take_records(alloc, self, &mut last, part)?;
-        push_open(&mut self.faults, &last, &self.marks[from..], end_of(part))?;
+        push_open(&mut self.faults, &mut self.held, &last, from, end_of(part))?;
         Ok(())
     }
 }
@@ -246,18 +285,17 @@ fn count_records(parts: &[Part]) -> u64 {
     count
 }
 
-/// Reads the partitions of the log, of these of all topics.
+/// Reads the partitions of the log, of these of all topics, and holds their unskipped records so.
 pub(crate) fn read_log(
     alloc: Global,
     parts: &[Part],
+    holding: Holding,
     faults: LogFaults,
 ) -> Result<LogReading, AllocError>
-    ensures { IfOk result (λ reading. reading ≡ after (unread faults) (all_steps (transaction_parts parts.now)) (flat_map part_faults (transaction_parts parts.now))) }
+    ensures { IfOk result (λ reading. Shows holding (readout reading) (after (unread faults) (all_steps (transaction_parts parts.now)) (flat_map part_faults (transaction_parts parts.now)))) }
 {
     let slots = slots_for(count_records(parts));
-    let known = Known::new(alloc, slots)?;
-    let sets = Sets::new(alloc, slots)?;
-    let mut reading = LogReading::new(alloc, faults, known, sets);
+    let mut reading = LogReading::new(alloc, Held::new(alloc, holding), faults, slots)?;
     for part in parts {
         if is_of_transaction_log(part) {
             reading.take_part(alloc, part)?;

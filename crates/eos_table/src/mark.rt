@@ -4,8 +4,8 @@ ghost use Rattle.std.specs.Prelude.{◌≡◌};
 ghost use Rattle.std.specs.Option.{option_copied};
 ghost use Rattle.eos_table.specs.steps.LogCandidates.{natural, producer_of};
 
+use crate::value::SharedValue;
 use bytes::Bytes;
-use eos_txnlog::TxnValue;
 
 /// A place in the log.
 #[derive(Clone, Copy)]
@@ -36,11 +36,11 @@ fn natural(producer: i64) -> Option<u64>
 }
 
 /// The producer id of a record, where it has one of 0 or more.
-pub(crate) fn producer_of(value: Option<&TxnValue>) -> Option<u64>
+pub(crate) fn producer_of(value: Option<&SharedValue>) -> Option<u64>
     ensures { result ≡ producer_of (option_copied value.entry) }
 {
     match value {
         None => None,
-        Some(value) => natural(value.producer),
+        Some(value) => natural(value.producer()),
     }
 }

@@ -4,9 +4,10 @@ ghost use Rattle.std.specs.Prelude.{◌≡◌, ◌∷◌, [], true, Some, IfOk, 
 ghost use Rattle.std.specs.Arc.{arc_value};
 ghost use Rattle.eos_table.specs.TransactionLog.{decided_as};
 
+use crate::value::SharedValue;
 use bytes::Bytes;
 use eos_batch::Kind;
-use eos_txnlog::{Partitions, TopicPartitions, TxnValue};
+use eos_txnlog::{Partitions, TopicPartitions};
 use eos_wire::crc32c;
 use std::alloc::{AllocError, Global};
 use std::marker::Model;
@@ -33,6 +34,25 @@ impl Model for SharedDecision {
 }
 
 impl SharedDecision {
+    /// What a record of this id and value decides, after one of the value before, and in this way.
+    pub(crate) fn between(
+        id: &Bytes,
+        before: &SharedValue,
+        value: &SharedValue,
+        kind: Kind,
+    ) -> Result<SharedDecision, AllocError>
+        ensures { IfOk result (λ d. decided_as id.now before.now value.now (Some kind) ≡ d ∷ []) }
+    {
+        Ok(SharedDecision {
+            id: id.clone()?,
+            producer: value.producer(),
+            epoch: before.epoch(),
+            marker_epoch: value.epoch(),
+            kind,
+            partitions: value.partitions()?,
+        })
+    }
+
     /// The producer id.
     pub(crate) fn producer(&self) -> i64
         ensures { result ≡ self.now.producer }
@@ -107,7 +127,7 @@ fn own(alloc: Global, set: &Partitions) -> Result<Arc<Partitions, Global>, Alloc
     }
 }
 
-/// Sets of partitions that decisions share, each at the slot of what it lists; the last one stays there.
+/// Sets of partitions that values share, each at the slot of what it lists; the last one stays there.
 #[derive(Drop)]
 pub(crate) struct Sets {
     alloc: Global,
@@ -141,7 +161,7 @@ impl Sets {
     }
 
     /// An equal set, which others may have too.
-    fn shared(&mut self, set: &Partitions) -> Result<Arc<Partitions, Global>, AllocError>
+    pub(crate) fn shared(&mut self, set: &Partitions) -> Result<Arc<Partitions, Global>, AllocError>
         ensures { IfOk result (λ shared. arc_value shared ≡ set.now) }
     {
         let slot = slot_of(set.as_slice(), self.slots.len());
@@ -153,25 +173,5 @@ impl Sets {
             *place = Some(Arc::try_clone(&made)?);
         }
         Ok(made)
-    }
-
-    /// What this value of an id decides, as a record after that of the value before, and in this way.
-    pub(crate) fn decision(
-        &mut self,
-        id: &Bytes,
-        before: &TxnValue,
-        value: &TxnValue,
-        kind: Kind,
-    ) -> Result<SharedDecision, AllocError>
-        ensures { IfOk result (λ d. decided_as id.now before.now value.now (Some kind) ≡ d ∷ []) }
-    {
-        Ok(SharedDecision {
-            id: id.clone()?,
-            producer: value.producer,
-            epoch: before.epoch,
-            marker_epoch: value.epoch,
-            kind,
-            partitions: self.shared(&value.partitions)?,
-        })
     }
 }

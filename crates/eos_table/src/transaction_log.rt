@@ -1,14 +1,15 @@
 //! The decisions of the transaction log, and where it breaks its own rule.
 
-ghost use Rattle.std.specs.Prelude.{◌≡◌, fold, IfOk, MatchResult};
+ghost use Rattle.std.specs.Prelude.{◌≡◌, fold, IfOk, IfSome, MatchResult};
 ghost use Rattle.eos_base.specs.AllOf.{IsAllOf};
 ghost use Rattle.eos_base.specs.Least.{NoneStands, IsLeast};
 ghost use Rattle.eos_table.specs.TransactionLog.{transaction_parts, AreInOrder, decisions_of};
 ghost use Rattle.eos_table.specs.LogFaults.{log_cmp, Stands as StandsInLog};
-ghost use Rattle.eos_table.specs.steps.LogCandidates.{taken};
+ghost use Rattle.eos_table.specs.steps.LogCandidates.{taken, none_found};
 ghost use Rattle.eos_table.specs.steps.Doubled.{gathered};
 
 use crate::doubled::push_doubled;
+use crate::held::Holding;
 use crate::log_faults::LogFaults;
 use crate::log_reading::{LogReading, read_log};
 use crate::shared::SharedDecision;
@@ -21,27 +22,64 @@ use std::alloc::{AllocError, Global};
 pub(crate) fn decisions_in(alloc: Global, parts: &[Part]) -> Result<Vec<SharedDecision>, AllocError>
     ensures { IfOk result (λ ds. ds.items ≡ decisions_of (transaction_parts parts.now)) }
 {
-    let LogReading { decisions, .. } = read_log(alloc, parts, LogFaults::only_least(alloc))?;
+    let LogReading { decisions, .. } = read_log(
+        alloc,
+        parts,
+        Holding::Nothing,
+        LogFaults::new(alloc, false),
+    )?;
     Ok(decisions)
 }
 
 /// What the log decided, and the faults that its records show, by themselves and against each other.
-fn judge_log(
+type Judged = (Vec<SharedDecision>, LogFaults);
+
+/// The same, where its unskipped records stand apart and none is left unfinished. None says nothing.
+fn judge_apart(
     alloc: Global,
     parts: &[Part],
     faults: LogFaults,
-) -> Result<(Vec<SharedDecision>, LogFaults), AllocError>
+) -> Result<Option<Judged>, AllocError>
+    ensures decisions { IfOk result (λ o. IfSome o (λ judged. judged.0.items ≡ decisions_of (transaction_parts parts.now))) }
+    ensures faults { IfOk result (λ o. IfSome o (λ judged. judged.1 ≡ fold taken faults (gathered (transaction_parts parts.now)))) }
+{
+    let LogReading {
+        held,
+        decisions,
+        faults,
+        ..
+    } = read_log(alloc, parts, Holding::Apart, faults)?;
+    match held.holding {
+        Holding::Apart => Ok(Some((decisions, faults))),
+        Holding::Each | Holding::Nothing => Ok(None),
+    }
+}
+
+/// The same, with each unskipped record held against those before it.
+fn judge_each(alloc: Global, parts: &[Part], faults: LogFaults) -> Result<Judged, AllocError>
     ensures decisions { IfOk result (λ judged. judged.0.items ≡ decisions_of (transaction_parts parts.now)) }
     ensures faults { IfOk result (λ judged. judged.1 ≡ fold taken faults (gathered (transaction_parts parts.now))) }
 {
     let LogReading {
-        marks,
+        held,
         decisions,
         mut faults,
         ..
-    } = read_log(alloc, parts, faults)?;
-    push_doubled(alloc, &mut faults, marks.as_slice())?;
+    } = read_log(alloc, parts, Holding::Each, faults)?;
+    push_doubled(alloc, &mut faults, held.marks.as_slice())?;
     Ok((decisions, faults))
+}
+
+/// What the log decided, and its faults, of which all are kept or the least. A log that keeps its rule is read once, and of its records
+/// next to nothing is held.
+fn judge_log(alloc: Global, parts: &[Part], keeps_all: bool) -> Result<Judged, AllocError>
+    ensures decisions { IfOk result (λ judged. judged.0.items ≡ decisions_of (transaction_parts parts.now)) }
+    ensures faults { IfOk result (λ judged. judged.1 ≡ fold taken (none_found keeps_all) (gathered (transaction_parts parts.now))) }
+{
+    match judge_apart(alloc, parts, LogFaults::new(alloc, keeps_all))? {
+        Some(judged) => Ok(judged),
+        None => judge_each(alloc, parts, LogFaults::new(alloc, keeps_all)),
+    }
 }
 
 /// What the transaction log decided, in its order: the Prepare records among the unskipped ones of the partitions of
@@ -59,7 +97,7 @@ pub fn txn_log(
     ensures { let log = transaction_parts parts.now in AreInOrder log → IfOk result (λ answer. MatchResult answer
         (λ ds. NoneStands (StandsInLog log) × (ds.items ≡ decisions_of log)) (IsLeast log_cmp (StandsInLog log))) }
 {
-    let (decisions, faults) = judge_log(alloc, parts, LogFaults::only_least(alloc))?;
+    let (decisions, faults) = judge_log(alloc, parts, false)?;
     match faults.into_least() {
         None => Ok(Ok(decisions)),
         Some(fault) => Ok(Err(fault)),
@@ -78,6 +116,6 @@ pub fn txn_log(
 pub fn all_log_faults(alloc: Global, parts: &[Part]) -> Result<Vec<LogFault>, AllocError>
     ensures { let log = transaction_parts parts.now in AreInOrder log → IfOk result (λ faults. IsAllOf log_cmp (StandsInLog log) faults.items) }
 {
-    let (_, faults) = judge_log(alloc, parts, LogFaults::every(alloc))?;
+    let (_, faults) = judge_log(alloc, parts, true)?;
     Ok(distinct_in_order(faults.into_all()))
 }

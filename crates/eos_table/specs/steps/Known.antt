@@ -1,6 +1,6 @@
 -- A value of the transaction log in two: the fields around its partitions, and their text. Where that text was read before, the
 -- value is read without a look into it.
-use Rattle.std.specs.Prelude.{◌≡◌, ℕ, ℤ, pos, true, List, ◌++◌, All}
+use Rattle.std.specs.Prelude.{◌≡◌, ℕ, ℤ, pos, true, List, [], ◌++◌, All}
 use Rattle.eos_wire.specs.Numbers.{i16_text}
 use Rattle.eos_wire.specs.declared.form.Form.{Form}
 use Rattle.eos_wire.specs.declared.form.Form.TheVariants.{Plain, Flexible}
@@ -17,6 +17,10 @@ version_of Flexible = pos 1
 -- with these partitions in the place of its own
 abbrev pub with_set : TxnValue → List TopicPartitions → TxnValue
 with_set v partitions = record { producer = v.producer; epoch = v.epoch; timeout = v.timeout; status = v.status; partitions = partitions; last_update = v.last_update; start = v.start }
+
+-- without partitions
+abbrev pub bare_of : TxnValue → TxnValue
+bare_of v = with_set v []
 
 -- the bytes are the fields of this value without tagged ones, and this text where its partitions stand
 pub record IsAround (form : Form) (bytes text : List ℕ) (v : TxnValue) : Type 0 where

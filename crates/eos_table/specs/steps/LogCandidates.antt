@@ -67,6 +67,9 @@ pub record Faults : Type 0 where
   pub least : Option LogFault
   pub all : List LogFault
 
+abbrev pub none_found : Bool → Faults
+none_found keeps_all = record { keeps_all = keeps_all; least = None; all = [] }
+
 -- with one more
 abbrev pub taken : Faults → LogFault → Faults
 taken kept f =

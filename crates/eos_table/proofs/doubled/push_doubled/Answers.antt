@@ -1,5 +1,4 @@
-use Rattle.std.proofs.Common.{take, fold, ap, sym, subst}
-use Rattle.eos_table.specs.steps.LogCandidates.{taken}
+use Rattle.std.proofs.Common.{take, subst}
 use Rattle.eos_table.specs.steps.Doubled.{AreHomes, AreIds}
 use Rattle.eos_table.proofs.DoubledMore.{passed_more, doubled_more}
 use Rattle.eos_table.proofs.doubled.push_doubled.Goals as goal
@@ -19,6 +18,3 @@ loop-mark-preserved c =
       homes = subst (AreHomes c.take_home.new.homes) passed (homes.homes before so_far.homes);
       ids = subst (AreIds c.take_producer.new.producers) passed (ids.producers before so_far.ids);
     }
-
-pub returns-then-branch : goal.returns-then-branch
-returns-then-branch c = sym (ap (fold taken c.args.faults.now) (c.in_ok-are_apart.ensures c.if-branch.true))

@@ -1,13 +1,14 @@
 use Rattle.std.proofs.Common.{◌≡◌, length}
 use Rattle.eos_table.specs.TransactionLog.{steps_after, state_after, state_of}
-use Rattle.eos_table.specs.steps.LogCandidates.{after, faults_after}
+use Rattle.eos_table.specs.steps.LogCandidates.{faults_after}
+use Rattle.eos_table.specs.steps.Held.{Readout, readout, Takes}
 use Rattle.eos_table.proofs.log_reading.take_records.Given as goal
 
 -- what is left to read
 abbrev pub invariant-loop-item : goal.invariant-loop-item
 invariant-loop-item l = record {
-  read : after l.reading (steps_after (state_of l.last) l.part.number l.items) (faults_after (state_of l.last) l.part.number l.items)
-      ≡ after l.fn.reading (steps_after (state_of l.fn.last) l.part.number l.part.items) (faults_after (state_of l.fn.last) l.part.number l.part.items);
+  read : (all : Readout) → Takes (readout l.reading) all (steps_after (state_of l.last) l.part.number l.items) (faults_after (state_of l.last) l.part.number l.items)
+      → Takes (readout l.fn.reading) all (steps_after (state_of l.fn.last) l.part.number l.part.items) (faults_after (state_of l.fn.last) l.part.number l.part.items);
   last : state_after (state_of l.last) l.items ≡ state_after (state_of l.fn.last) l.part.items;
 }
 
