@@ -119,7 +119,9 @@ def wrong_lines(lines, folder):
     asked = [it for it in deeds if "event" in it]
     for it in asked:
         rest = set(it) - {"number", "event", "reply"} - ({"value"} if it["reply"] == "done" else set())
-        if it["reply"] not in REPLIES or rest != ARGUMENTS[it["event"]]:
+        # the second group is named, and the first isn't
+        group = {"group"} if it["event"] == "members" and head["chain"] and it.get("group") == 1 else set()
+        if it["reply"] not in REPLIES or rest != ARGUMENTS[it["event"]] | group:
             return f"{it}"
     notes = [it for it in deeds if "note" in it]
     if any(set(it) != {"number", "set"} for it in deeds if "event" not in it and "note" not in it) or tail["events"] != len(asked):
@@ -334,6 +336,11 @@ def worked():
     ]
     answer = (0, "wrote partitions=8\nyes transactions=2 inputs=4 outputs=2\n", "")
     expect(replayed(chain, *deeds[:14], *second) == answer, f"a second group: {replayed(chain, *deeds[:14], *second)}")
+    # the members of the first group change, and what the second commits stands; when its own do, it is stale
+    for group in ({}, {"group": 1}):
+        changed = [*second[:9], event(24, "members", **group, reply="done", value=0), *second[9:]]
+        said = replayed(chain, *deeds[:14], *changed)
+        expect(said == answer if not group else said[0] == 2 and "stale-generation" in said[2], f"members {group}: {said}")
     # where it names a marker for a record
     none_there = [it if it["number"] != 21 else it | {"claim": {**first, "topic": "out", "partition": 1, "offset": 1}} for it in second]
     answer = replayed(chain, *deeds[:14], *none_there)

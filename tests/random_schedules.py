@@ -73,7 +73,7 @@ def event(words):
     if choice == 10:
         return f"fetch:{number(words)},{number(words)}"
     if choice == 11:
-        return "members"
+        return f"members:{number(words)}"
     if choice == 12:
         return f"broker:{number(words)}"
     if choice == 13:

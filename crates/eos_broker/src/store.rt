@@ -4,7 +4,7 @@
 ghost use Rattle.std.specs.Prelude.{◌≡◌, ◌∷◌, ◌++◌, ◌-◌, ◌+◌, ◌≤◌, ◌<◌, ◌^◌, [], OnOk, OnErr, IfOk, replicate};
 ghost use Rattle.std.specs.List.{All};
 ghost use Rattle.eos_machine.specs.LogIndexes.{IsConfig, application_count};
-ghost use Rattle.eos_machine.specs.World.{opening, fresh, log_at, with_item, with_generation};
+ghost use Rattle.eos_machine.specs.World.{opening, fresh, generation_at, generation_of, log_at, with_item, with_generation};
 ghost use Rattle.eos_machine.specs.Logs.{producer_at, unseen};
 ghost use Rattle.eos_broker.specs.Named.{IsFrom};
 ghost use Rattle.eos_broker.specs.Held.{becomes, held, IsKeptFor, items_of};
@@ -29,7 +29,8 @@ pub struct Store {
     /// For each message, whether a broker has accepted it.
     accepted: Vec<bool>,
     sessions: Vec<Session>,
-    generation: u64,
+    /// By group: how often its members have changed.
+    generations: Vec<u64>,
     events: u64,
     spare: usize,
 }
@@ -49,7 +50,7 @@ impl Model for Store {
         messages = s.messages.items;
         accepted = s.accepted.items;
         sessions = s.sessions.items;
-        generation = s.generation;
+        generations = s.generations.items;
         events = s.events;
       };
       spare = s.spare;
@@ -122,6 +123,17 @@ fn empty_logs(
     Ok(logs)
 }
 
+/// So many groups whose members haven't changed.
+fn first_generations(alloc: Global, groups: usize) -> Result<Vec<u64>, AllocError>
+    ensures { IfOk result (λ v. v.items ≡ replicate groups 0) }
+{
+    let mut generations = Vec::new(alloc);
+    for _ in 0..groups {
+        generations.push(0)?;
+    }
+    Ok(generations)
+}
+
 impl Store {
     /// A cluster before any event.
     pub fn new(alloc: Global, config: Config) -> Result<Store, AllocError>
@@ -139,6 +151,7 @@ impl Store {
         for _ in 0..applications {
             coordinators.push(fresh(alloc))?;
         }
+        let generations = first_generations(alloc, config.group_count())?;
         Ok(Store {
             alloc,
             config,
@@ -147,7 +160,7 @@ impl Store {
             messages: Vec::new(alloc),
             accepted: Vec::new(alloc),
             sessions: Vec::new(alloc),
-            generation: 0,
+            generations,
             events: 0,
             spare: 0,
         })
@@ -203,17 +216,29 @@ impl Store {
         self.events = events;
     }
 
-    /// How often the members of both groups have changed.
-    pub fn generation(&self) -> u64
-        ensures { result ≡ self.now.world.generation }
+    /// How often the members of a group have changed.
+    pub fn generation(&self, group: usize) -> u64
+        ensures { result ≡ generation_at self.now.world group }
     {
-        self.generation
+        match self.generations.get(group) {
+            Some(generation) => *generation,
+            None => 0,
+        }
     }
 
-    pub fn set_generation(&mut self, generation: u64)
-        ensures { self.new ≡ becomes self.old (with_generation self.old.world generation) 0 }
+    /// The same of an application's group.
+    pub fn generation_of(&self, application: usize) -> u64
+        ensures { result ≡ generation_of self.now.config self.now.world application }
     {
-        self.generation = generation;
+        self.generation(self.config.group_of(application))
+    }
+
+    pub fn set_generation(&mut self, group: usize, generation: u64)
+        ensures { self.new ≡ becomes self.old (with_generation self.old.world group generation) 0 }
+    {
+        if group < self.generations.len() {
+            self.generations[group] = generation;
+        }
     }
 
     /// The items of the log at a place.

@@ -25,7 +25,7 @@ use Rattle.eos_machine.specs.Rest.{IsAtRest, KeepsSequences, StepsFit, AllAtomic
 use Rattle.eos_machine.proofs.Resting.{good_opening, rest_is_atomic}
 use Rattle.eos_machine.proofs.TouchRules.{keeps_sequences, neighbours_fit}
 use Rattle.eos_machine.proofs.StepRules.{all_steps}
-use Rattle.eos_machine.proofs.BoundedEvents.{bounded_run_under, bounded_opening, epoch_top}
+use Rattle.eos_machine.proofs.BoundedEvents.{bounded_run_under, bounded_opening, epoch_top, generation_within}
 use Rattle.eos_machine.proofs.FormedEvents.{formed_run, formed_opening}
 use Rattle.eos_machine.proofs.Counting.{IsCounted, counted_run, counted_opening}
 use Rattle.eos_evidence.specs.Evidence.{EvidenceParts}
@@ -100,7 +100,7 @@ needs c w e l r = at e (is_bounded c w r) (is_formed c w r)
     at (events.End n k) b f = tt
     at (events.Resume n) b f = small_at w.events w.sessions n l b.sessions
     at (events.Fetch n q) b f = tt
-    at events.Members b f = omega (arith, b.generation, l)
+    at (events.Members g) b f = let k = generation_within w.events w g b in omega (arith, k, l)
     at (events.BrokerRestart t p) b f = tt
     at events.CoordinatorRestart b f = tt
     at (events.Deliver n) b f = (named c w.messages n f.messages, f.coordinators, λ a. epoch_top w.events w a b)

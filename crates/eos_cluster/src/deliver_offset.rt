@@ -62,7 +62,7 @@ pub(crate) fn judge_offset(
     if store.is_accepted(number) {
         return Err(Reply::DuplicateKept);
     }
-    if is_stale(switches, generation, store.generation()) {
+    if is_stale(switches, generation, store.generation_of(application)) {
         return Err(Reply::StaleGeneration);
     }
     if epoch < store.producer(application, OFFSETS_INDEX).high {

@@ -153,7 +153,7 @@ pub fn fetch(store: &Store, number: usize, source: usize) -> Result<Reply, Alloc
     if !is_source(config, session.application, source) {
         return Ok(Reply::Unknown);
     }
-    if session.generation != store.generation() {
+    if session.generation != store.generation_of(session.application) {
         return Ok(Reply::StaleGeneration);
     }
     let fetched = read_back(store, source)?;

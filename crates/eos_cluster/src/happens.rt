@@ -1,7 +1,8 @@
 //! Whatever happens to a cluster: each event, and its effect.
 
-ghost use Rattle.std.specs.Prelude.{◌≡◌, OnErr, IfOk};
-ghost use Rattle.eos_machine.specs.Machine.{restart_broker, happens_under};
+ghost use Rattle.std.specs.Prelude.{◌≡◌, ◌<◌, ◌^◌, OnErr, IfOk};
+ghost use Rattle.eos_machine.specs.Machine.{change_members, restart_broker, happens_under};
+ghost use Rattle.eos_machine.specs.World.{generation_at};
 ghost use Rattle.eos_broker.specs.steps.Named.{Needs};
 
 use crate::deliver_end::time_out;
@@ -23,6 +24,20 @@ fn restart_broker(store: &mut Store, topic: &Bytes, partition: usize) -> Reply
         return Reply::Unknown;
     }
     store.restart_log(start_of(config, topic).saturating_add(partition));
+    Reply::Done(0)
+}
+
+/// The members of a group change, and those of no other.
+#[tactic(auto, unfolding(eos_machine::specs::Answers::when))]
+fn change_members(store: &mut Store, group: usize) -> Reply
+    requires { generation_at store.old.world group < 2 ^ 31 }
+    ensures answer { (store.new.world, result) ≡ change_members store.old.config store.old.world group }
+    ensures config { store.new.config ≡ store.old.config }
+{
+    if group >= store.config().group_count() {
+        return Reply::Unknown;
+    }
+    store.set_generation(group, store.generation(group) + 1);
     Reply::Done(0)
 }
 
@@ -53,10 +68,7 @@ pub(crate) fn happen(
         Event::End { session, kind } => end(store, session, kind),
         Event::Resume { session } => resume(store, session),
         Event::Fetch { session, source } => fetch(store, session, source),
-        Event::Members => {
-            store.set_generation(store.generation() + 1);
-            Ok(Reply::Done(0))
-        }
+        Event::Members { group } => Ok(change_members(store, group)),
         Event::BrokerRestart { topic, partition } => Ok(restart_broker(store, &topic, partition)),
         Event::CoordinatorRestart => {
             restart(store)?;

@@ -56,7 +56,7 @@ fn start_session(
     let session = Session {
         application,
         epoch,
-        generation: store.generation(),
+        generation: store.generation_of(application),
         ending: None,
         sequences: copies::zeros(alloc, config.outputs)?,
         messages: Listed::new(Vec::new(alloc)),

@@ -73,7 +73,7 @@ impl Actors {
             Happening::Lose => self.lose(driver),
             Happening::Repeat => self.repeat(cluster, driver, rest),
             Happening::Abandon => self.abandon(rest),
-            Happening::ChangeMembers => self.change_members(cluster, driver),
+            Happening::ChangeMembers => self.change_members(cluster, driver, rest),
             Happening::RestartBroker => self.restart_broker(cluster, driver, rest),
             Happening::RestartCoordinator => self.restart_coordinator(cluster, driver),
             Happening::TimeOut => self.time_out(cluster, driver, rest),
@@ -296,16 +296,20 @@ impl Actors {
         }
     }
 
+    /// The members of an application's group change.
     fn change_members(
         &mut self,
         cluster: &mut Cluster,
         driver: &mut Driver,
+        choice: u64,
     ) -> Result<(), AllocError>
         requires { driver.old.course ≡ cluster.old }
         ensures { HasAsked cluster.old driver.old cluster.new driver.new }
     {
-        if let Reply::Done(_) = driver.ask(cluster, Event::Members)? {
-            self.plan.change_members();
+        let application = remainder(choice, self.applications);
+        let group = self.plan.config().group_of(application);
+        if let Reply::Done(_) = driver.ask(cluster, Event::Members { group })? {
+            self.plan.change_members(application);
         }
         Ok(())
     }

@@ -55,7 +55,7 @@ pub(crate) struct Choice {
 pub(crate) struct Instance {
     application: usize,
     session: usize,
-    /// The generation of the groups when the session began.
+    /// The generation of its group when the session began.
     generation: u64,
     stage: Stage,
     /// What its transaction asks.
@@ -140,7 +140,7 @@ impl Instance {
             None => {
                 if !self.requests.is_empty() {
                     Stage::Sending(0)
-                } else if self.generation != plan.generation() {
+                } else if self.generation != plan.generation_of(self.application) {
                     Stage::Away
                 } else {
                     self.is_idle = true;
@@ -227,7 +227,7 @@ impl Instance {
         match reply {
             Reply::Done(session) => {
                 self.session = session as usize;
-                self.generation = plan.generation();
+                self.generation = plan.generation_of(self.application);
                 self.begin();
             }
             Reply::EpochsSpent => self.stage = Stage::Spent,

@@ -9,11 +9,12 @@ use eos_cluster::Cluster;
 use eos_machine::Config;
 use std::alloc::{AllocError, Global};
 
-/// The inputs of a run as far as it knows them, and how often it changed the members of both groups.
+/// The inputs of a run as far as it knows them, and how often it changed the members of each group.
 #[derive(Drop)]
 pub(crate) struct Plan {
     config: Config,
-    generation: u64,
+    /// How often the members of the first group have changed, and those of the second.
+    generations: [u64; 2],
     /// The number of inputs of each partition of `in`.
     ends: Vec<u64>,
     /// What the second group has read of each partition of `out`: none where there is no second group.
@@ -48,7 +49,7 @@ impl Plan {
         }
         Ok(Plan {
             config,
-            generation: 0,
+            generations: [0, 0],
             ends,
             readers,
             mishaps: Mishaps::new(alloc, mishaps)?,
@@ -59,13 +60,22 @@ impl Plan {
         self.config
     }
 
-    pub(crate) fn generation(&self) -> u64 {
-        self.generation
+    /// The generation of an application's group.
+    pub(crate) fn generation_of(&self, application: usize) -> u64 {
+        if self.config.is_chained(application) {
+            self.generations[1]
+        } else {
+            self.generations[0]
+        }
     }
 
-    /// The members have changed.
-    pub(crate) fn change_members(&mut self) {
-        self.generation = self.generation.saturating_add(1);
+    /// The members of an application's group have changed.
+    pub(crate) fn change_members(&mut self, application: usize) {
+        if self.config.is_chained(application) {
+            self.generations[1] = self.generations[1].saturating_add(1);
+        } else {
+            self.generations[0] = self.generations[0].saturating_add(1);
+        }
     }
 
     /// An input came in at an offset.

@@ -132,7 +132,7 @@ fn commit_twice(
     let Some(other) = done(cluster, driver, Event::Start { application: 1 })? else {
         return Ok(());
     };
-    driver.ask(cluster, Event::Members)?;
+    driver.ask(cluster, Event::Members { group: 0 })?;
     process(cluster, driver, session, offset)?;
     process(cluster, driver, other as usize, offset)
 }

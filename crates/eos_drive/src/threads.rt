@@ -60,7 +60,7 @@ fn event_of(word: u32) -> Event {
             session,
             source: two,
         },
-        7 => Event::Members,
+        7 => Event::Members { group: two },
         8 => Event::BrokerRestart {
             topic: Bytes::from_static(b"out"),
             partition: two,

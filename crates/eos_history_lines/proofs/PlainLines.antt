@@ -1,6 +1,6 @@
 -- The value of a line has no float, nests no deeper than a JSON text may, and names each member once: so it is its text, and reads
 -- back from it.
-use Rattle.std.proofs.Common.{◌≡◌, ◌≤◌, ℕ, ℤ, pos, negsuc, ◌+◌, List, [], ◌∷◌, ◌++◌, Bool, true, false, ◌||◌, Option, None, Some, Ordering, Less, Equal, Greater, cond, nat_cmp, codes, refl, arith}
+use Rattle.std.proofs.Common.{◌≡◌, ◌≤◌, ◌==◌, ℕ, ℤ, pos, negsuc, ◌+◌, List, [], ◌∷◌, ◌++◌, Bool, true, false, ◌||◌, Option, None, Some, Ordering, Less, Equal, Greater, cond, if◌then◌else◌, nat_cmp, codes, refl, arith}
 use Rattle.std.specs.Cmp.Lexicographic.{slice_cmp}
 use Rattle.std.specs.Ordering.{match_ordering}
 use Rattle.std.specs.Str.{is_utf8}
@@ -27,7 +27,7 @@ use Rattle.eos_history_lines.specs.declared.line.Line.{Line}
 use Rattle.eos_history_lines.specs.declared.line.Tail.{Tail}
 use Rattle.eos_history_lines.specs.declared.line.Row.{Row}
 use Rattle.eos_history_lines.specs.declared.line.Row.TheVariants as rows
-use Rattle.eos_history_lines.specs.Lines.{count, integer, topic_value, named_if, switch_names, switches_value, with_sizes, with_asked, head_value, with_claim, claim_value, claimed, offset_or_null, with_arguments, with_event, with_value, with_reply, with_subject, with_note, with_deed, line_value, with_tail, tail_value, row_value}
+use Rattle.eos_history_lines.specs.Lines.{count, integer, topic_value, named_if, switch_names, switches_value, with_sizes, with_asked, head_value, with_claim, claim_value, claimed, offset_or_null, with_group, with_arguments, with_event, with_value, with_reply, with_subject, with_note, with_deed, line_value, with_tail, tail_value, row_value}
 
 -- no float, at most so deep, and each member of an object once
 pub record Flat (n : ℕ) (d : Data) : Type 0 where
@@ -196,6 +196,14 @@ offset_flat n (Some z) = integer_flat n z
 one : (k : List ℕ) (m : ℕ) (ms : JsonMembers) → FlatMembers 2 ms → FlatMembers 2 (put k (count m) ms)
 one k m ms h = put_flat 2 k (count m) ms (count_flat 2 m) h
 
+group_flat : (g : ℕ) (ms : JsonMembers) → FlatMembers 2 ms → FlatMembers 2 (with_group g ms)
+unfolding with_group
+group_flat g ms h = by (g == 0)
+  where
+    by : (b : Bool) → FlatMembers 2 (if b then ms else put (codes "group") (count g) ms)
+    by true = h
+    by false = one _ g ms h
+
 arguments_flat : (e : Event) (ms : JsonMembers) → FlatMembers 2 ms → FlatMembers 2 (with_arguments e ms)
 unfolding with_arguments
 arguments_flat (Feed source) ms h = one _ source ms h
@@ -205,7 +213,7 @@ arguments_flat (Commit session source offset) ms h = put_flat 2 _ _ _ (offset_fl
 arguments_flat (End session kind) ms h = put_flat 2 _ _ _ (string_flat 2 _) (one _ session ms h)
 arguments_flat (Resume session) ms h = one _ session ms h
 arguments_flat (Fetch session source) ms h = one _ source _ (one _ session ms h)
-arguments_flat Members ms h = h
+arguments_flat (Members group) ms h = group_flat group ms h
 arguments_flat (BrokerRestart topic partition) ms h = one _ partition _ (put_flat 2 _ _ ms (topic_flat 1 topic) h)
 arguments_flat CoordinatorRestart ms h = h
 arguments_flat (Deliver message) ms h = one _ message ms h

@@ -1,8 +1,9 @@
 -- What is read from the value of a line is that line.
-use Rattle.std.proofs.Common.{◌≡◌, ◌^◌, ℕ, ℤ, pos, negsuc, List, [], ◌∷◌, ◌++◌, Bool, true, false, ◌||◌, nat_lt, nat_le, Option, None, Some, option_map, codes, FitsSigned, refl, sym, ap, ◌∙◌, arith}
+use Rattle.std.proofs.Common.{◌≡◌, ◌^◌, ℕ, ◌==◌, ℤ, pos, negsuc, List, [], ◌∷◌, ◌++◌, Bool, true, false, ◌||◌, nat_lt, nat_le, Option, None, Some, option_map, codes, FitsSigned, if◌then◌else◌, refl, sym, ap, ◌∙◌, arith}
 use Rattle.std.specs.Prelude.{IfSome, bytes_eq, option_and_then}
 use Rattle.std.specs.Int.{w32, w64}
 use Rattle.std.proofs.lemmas.Int.{ints}
+use Rattle.std.proofs.lemmas.Bool.{eqb-true}
 use Rattle.std.proofs.lemmas.Bool.Decides.{nat_tests}
 use Rattle.std.proofs.lemmas.Slice.Eq.{bytes_eq-Decides}
 use Rattle.serde_json.proofs.Views.{get_member-put, get_member-put_other}
@@ -30,8 +31,8 @@ use Rattle.eos_history_lines.specs.declared.line.Row.{Row}
 use Rattle.eos_history_lines.specs.declared.line.Row.TheVariants as rows
 use Rattle.eos_history_lines.specs.Fits.{FitsClaim, FitsEvent, FitsNote, FitsDeed, FitsRow}
 use Rattle.eos_history_lines.specs.Words.{event_word, note_word}
-use Rattle.eos_history_lines.specs.Lines.{count, integer, topic_value, named_if, switch_names, switches_value, with_sizes, with_asked, head_value, with_claim, claim_value, claimed, offset_or_null, with_arguments, with_event, with_value, with_reply, with_subject, with_note, with_deed, line_value, with_tail, tail_value, row_value}
-use Rattle.eos_history_lines.specs.steps.Reading.{as_small, claim_in, claim_or_none, offset_or_none, event_called, event_in, reply_in, reply_from, is_text, is_named, switches_in, head_in, note_called, deed_from, deed_of, deed_in, line_in, tail_in, row_from, row_in}
+use Rattle.eos_history_lines.specs.Lines.{count, integer, topic_value, named_if, switch_names, switches_value, with_sizes, with_asked, head_value, with_claim, claim_value, claimed, offset_or_null, with_group, with_arguments, with_event, with_value, with_reply, with_subject, with_note, with_deed, line_value, with_tail, tail_value, row_value}
+use Rattle.eos_history_lines.specs.steps.Reading.{as_small, claim_in, claim_or_none, offset_or_none, event_called, group_from, event_in, reply_in, reply_from, is_text, is_named, switches_in, head_in, note_called, deed_from, deed_of, deed_in, line_in, tail_in, row_from, row_in}
 
 -- ---- looking up what was put
 
@@ -52,7 +53,16 @@ record NoArgument (q : List ℕ) : Type 0 where
   offset : bytes_eq q (codes "offset") ≡ false
   kind : bytes_eq q (codes "kind") ≡ false
   topic : bytes_eq q (codes "topic") ≡ false
+  group : bytes_eq q (codes "group") ≡ false
   message : bytes_eq q (codes "message") ≡ false
+
+past_group : (q : List ℕ) (g : ℕ) (ms : JsonMembers) → bytes_eq q (codes "group") ≡ false → get_member q (with_group g ms) ≡ get_member q ms
+unfolding with_group
+past_group q g ms differ = by (g == 0)
+  where
+    by : (b : Bool) → get_member q (if b then ms else put (codes "group") (count g) ms) ≡ get_member q ms
+    by true = refl
+    by false = other q (codes "group") (count g) ms differ
 
 past_arguments : (q : List ℕ) (e : Event) (ms : JsonMembers) → NoArgument q → get_member q (with_arguments e ms) ≡ get_member q ms
 unfolding with_arguments
@@ -63,7 +73,7 @@ past_arguments q (Commit session source offset) ms n = other q _ _ _ n.offset �
 past_arguments q (End session kind) ms n = other q _ _ _ n.kind ∙ other q _ _ ms n.session
 past_arguments q (Resume session) ms n = other q _ _ ms n.session
 past_arguments q (Fetch session source) ms n = other q _ _ _ n.source ∙ other q _ _ ms n.session
-past_arguments q Members ms n = refl
+past_arguments q (Members group) ms n = past_group q group ms n.group
 past_arguments q (BrokerRestart topic partition) ms n = other q _ _ _ n.partition ∙ other q _ _ ms n.topic
 past_arguments q CoordinatorRestart ms n = refl
 past_arguments q (Deliver message) ms n = other q _ _ ms n.message
@@ -137,11 +147,22 @@ offset_said : (z : Option ℤ) → IfSome z (FitsSigned w64) → offset_or_none 
 offset_said None h = refl
 offset_said (Some z) h = rw (integer_back z h) refl
 
-event_back : (e : Event) (ms : JsonMembers) → FitsEvent e → event_called (event_word e) (object (with_arguments e ms)) ≡ Some e
+members_back : (g : ℕ) (ms : JsonMembers) → get_member (codes "group") ms ≡ None → event_called (codes "members") (object (with_group g ms)) ≡ Some (Members g)
+unfolding with_group
+members_back g ms none = by (g == 0) refl
+  where
+    said : Option Data → Option Event
+    said found = option_map (λ group. Members group) (group_from found)
+
+    by : (b : Bool) → (g == 0) ≡ b → said (get_member (codes "group") (if b then ms else put (codes "group") (count g) ms)) ≡ Some (Members g)
+    by true first = ap said none ∙ ap (λ (k : ℕ). Some (Members k)) (sym (eqb-true g 0 first))
+    by false other = ap said (get_member-put (codes "group") (count g) ms)
+
+event_back : (e : Event) (ms : JsonMembers) → FitsEvent e → get_member (codes "group") ms ≡ None → event_called (event_word e) (object (with_arguments e ms)) ≡ Some e
 unfolding with_arguments
-event_back (Feed source) ms h = rw (get_member-put (codes "source") (count source) ms) refl
-event_back (Start application) ms h = rw (get_member-put (codes "application") (count application) ms) refl
-event_back (Produce session partition claim) ms h =
+event_back (Feed source) ms h none = rw (get_member-put (codes "source") (count source) ms) refl
+event_back (Start application) ms h none = rw (get_member-put (codes "application") (count application) ms) refl
+event_back (Produce session partition claim) ms h none =
     let one = put (codes "session") (count session) ms in
     let two = put (codes "partition") (count partition) one in
     rw (
@@ -153,7 +174,7 @@ event_back (Produce session partition claim) ms h =
       get_member-put (codes "session") (count session) ms,
       claim_said claim h,
     ) refl
-event_back (Commit session source offset) ms h =
+event_back (Commit session source offset) ms h none =
     let one = put (codes "session") (count session) ms in
     let two = put (codes "source") (count source) one in
     rw (
@@ -165,27 +186,27 @@ event_back (Commit session source offset) ms h =
       get_member-put (codes "session") (count session) ms,
       offset_said offset h,
     ) refl
-event_back (End session kinds.Commit) ms h =
+event_back (End session kinds.Commit) ms h none =
     let one = put (codes "session") (count session) ms in
     rw (get_member-put (codes "kind") (string (codes "commit")) one, other (codes "session") (codes "kind") (string (codes "commit")) one refl, get_member-put (codes "session") (count session) ms) refl
-event_back (End session kinds.Abort) ms h =
+event_back (End session kinds.Abort) ms h none =
     let one = put (codes "session") (count session) ms in
     rw (get_member-put (codes "kind") (string (codes "abort")) one, other (codes "session") (codes "kind") (string (codes "abort")) one refl, get_member-put (codes "session") (count session) ms) refl
-event_back (Resume session) ms h = rw (get_member-put (codes "session") (count session) ms) refl
-event_back (Fetch session source) ms h =
+event_back (Resume session) ms h none = rw (get_member-put (codes "session") (count session) ms) refl
+event_back (Fetch session source) ms h none =
     let one = put (codes "session") (count session) ms in
     rw (get_member-put (codes "source") (count source) one, other (codes "session") (codes "source") (count source) one refl, get_member-put (codes "session") (count session) ms) refl
-event_back Members ms h = refl
-event_back (BrokerRestart topic partition) ms h =
+event_back (Members group) ms h none = members_back group ms none
+event_back (BrokerRestart topic partition) ms h none =
     let one = put (codes "topic") (topic_value topic) ms in
     rw (get_member-put (codes "partition") (count partition) one, other (codes "topic") (codes "partition") (count partition) one refl, get_member-put (codes "topic") (topic_value topic) ms, h) refl
-event_back CoordinatorRestart ms h = refl
-event_back (Deliver message) ms h = rw (get_member-put (codes "message") (count message) ms) refl
-event_back (TimeOut application) ms h = rw (get_member-put (codes "application") (count application) ms) refl
+event_back CoordinatorRestart ms h none = refl
+event_back (Deliver message) ms h none = rw (get_member-put (codes "message") (count message) ms) refl
+event_back (TimeOut application) ms h none = rw (get_member-put (codes "application") (count application) ms) refl
 
-event_said : (e : Event) (ms : JsonMembers) → FitsEvent e → event_in (object (with_event e ms)) ≡ Some e
+event_said : (e : Event) (ms : JsonMembers) → FitsEvent e → get_member (codes "group") ms ≡ None → event_in (object (with_event e ms)) ≡ Some e
 unfolding with_event
-event_said e ms h =
+event_said e ms h none =
     let base = put (codes "event") (string (event_word e)) ms in
     let d = object (with_arguments e base) in
     let word = past_arguments (codes "event") e base (record {
@@ -197,9 +218,10 @@ event_said e ms h =
       offset = refl;
       kind = refl;
       topic = refl;
+      group = refl;
       message = refl;
     }) ∙ get_member-put (codes "event") (string (event_word e)) ms in
-    ap (λ o. option_and_then (λ w. event_called w d) (option_and_then as_str o)) word ∙ event_back e base h
+    ap (λ o. option_and_then (λ w. event_called w d) (option_and_then as_str o)) word ∙ event_back e base h (other (codes "group") (codes "event") (string (event_word e)) ms refl ∙ none)
 
 -- ---- replies
 
@@ -334,34 +356,34 @@ noted_back (notes.Lost message) ms h = rw (get_member-put (codes "message") (cou
 noted_back (notes.Repeated message) ms h = rw (get_member-put (codes "message") (count message) ms) refl
 noted_back (notes.Erred mishap) ms h = rw (get_member-put (codes "mishap") (topic_value mishap) ms, h) refl
 
-deed_back : (d : Deed) (ms : JsonMembers) → FitsDeed d → get_member (codes "note") ms ≡ None → get_member (codes "set") ms ≡ None → get_member (codes "reply") ms ≡ None → deed_in (object (with_deed d ms)) ≡ Some d
+deed_back : (d : Deed) (ms : JsonMembers) → FitsDeed d → get_member (codes "note") ms ≡ None → get_member (codes "set") ms ≡ None → get_member (codes "reply") ms ≡ None → get_member (codes "group") ms ≡ None → deed_in (object (with_deed d ms)) ≡ Some d
 unfolding with_deed with_note switches_value
-deed_back (Asked event reply) ms h note set none =
+deed_back (Asked event reply) ms h note set none group =
     let base = with_reply reply ms in
     let d = object (with_event event base) in
     let no_set = past_asked (codes "set") event reply ms (record {
-      argument = record { source = refl; application = refl; session = refl; partition = refl; claim = refl; offset = refl; kind = refl; topic = refl; message = refl };
+      argument = record { source = refl; application = refl; session = refl; partition = refl; claim = refl; offset = refl; kind = refl; topic = refl; group = refl; message = refl };
       event = refl;
       reply = refl;
       value = refl;
     }) ∙ set in
     let no_note = past_asked (codes "note") event reply ms (record {
-      argument = record { source = refl; application = refl; session = refl; partition = refl; claim = refl; offset = refl; kind = refl; topic = refl; message = refl };
+      argument = record { source = refl; application = refl; session = refl; partition = refl; claim = refl; offset = refl; kind = refl; topic = refl; group = refl; message = refl };
       event = refl;
       reply = refl;
       value = refl;
     }) ∙ note in
     let replied = reply_said reply d ms
-    (past_event (codes "reply") event base (record { source = refl; application = refl; session = refl; partition = refl; claim = refl; offset = refl; kind = refl; topic = refl; message = refl }) refl)
-    (past_event (codes "value") event base (record { source = refl; application = refl; session = refl; partition = refl; claim = refl; offset = refl; kind = refl; topic = refl; message = refl }) refl)
+    (past_event (codes "reply") event base (record { source = refl; application = refl; session = refl; partition = refl; claim = refl; offset = refl; kind = refl; topic = refl; group = refl; message = refl }) refl)
+    (past_event (codes "value") event base (record { source = refl; application = refl; session = refl; partition = refl; claim = refl; offset = refl; kind = refl; topic = refl; group = refl; message = refl }) refl)
     none in
-    ap (λ o. deed_of o d) no_note ∙ ap (λ o. deed_from o d) no_set ∙ ap (λ o. option_and_then (λ r. option_map (λ e. Asked e r) (event_in d)) o) replied ∙ ap (λ o. option_map (λ e. Asked e reply) o) (event_said event base h)
-deed_back (Set switches) ms h note set none =
+    ap (λ o. deed_of o d) no_note ∙ ap (λ o. deed_from o d) no_set ∙ ap (λ o. option_and_then (λ r. option_map (λ e. Asked e r) (event_in d)) o) replied ∙ ap (λ o. option_map (λ e. Asked e reply) o) (event_said event base h (past_reply (codes "group") reply ms refl refl ∙ group))
+deed_back (Set switches) ms h note set none group =
     let d = object (put (codes "set") (array (items_of (switch_names switches))) ms) in
     ap (λ o. deed_of o d) (other (codes "note") (codes "set") (array (items_of (switch_names switches))) ms refl ∙ note)
     ∙ ap (λ o. deed_from o d) (get_member-put (codes "set") (array (items_of (switch_names switches))) ms)
     ∙ ap (λ (s : Switches). Some (Set s)) (switches_back switches)
-deed_back (Noted note) ms h none set reply =
+deed_back (Noted note) ms h none set reply group =
     let base = put (codes "note") (string (note_word note)) ms in
     let d = object (with_subject note base) in
     let said = past_subject (codes "note") note base refl refl ∙ get_member-put (codes "note") (string (note_word note)) ms in
@@ -373,7 +395,7 @@ line_back l h =
     let base = put (codes "number") (count l.number) no_members in
     let d = object (with_deed l.deed base) in
     let numbered = past_deed (codes "number") l.deed base (record {
-      argument = record { source = refl; application = refl; session = refl; partition = refl; claim = refl; offset = refl; kind = refl; topic = refl; message = refl };
+      argument = record { source = refl; application = refl; session = refl; partition = refl; claim = refl; offset = refl; kind = refl; topic = refl; group = refl; message = refl };
       note = refl;
       mishap = refl;
       event = refl;
@@ -381,14 +403,14 @@ line_back l h =
       value = refl;
     }) refl in
     ap (λ o. option_and_then (λ n. option_map (λ deed. record { number = n; deed = deed }) (deed_in d)) (option_and_then (λ v. option_and_then as_u64 (as_number v)) o)) numbered
-    ∙ ap (λ o. option_map (λ (deed : Deed). record { number = l.number; deed = deed }) o) (deed_back l.deed base h refl refl refl)
+    ∙ ap (λ o. option_map (λ (deed : Deed). record { number = l.number; deed = deed }) o) (deed_back l.deed base h refl refl refl refl)
 
 pub row_back : (r : Row) → FitsRow r → row_in (row_value r) ≡ Some r
 unfolding line_value tail_value with_tail
 row_back (rows.Line l) h =
     let base = put (codes "number") (count l.number) no_members in
     let no_total = past_deed (codes "events") l.deed base (record {
-      argument = record { source = refl; application = refl; session = refl; partition = refl; claim = refl; offset = refl; kind = refl; topic = refl; message = refl };
+      argument = record { source = refl; application = refl; session = refl; partition = refl; claim = refl; offset = refl; kind = refl; topic = refl; group = refl; message = refl };
       note = refl;
       mishap = refl;
       event = refl;

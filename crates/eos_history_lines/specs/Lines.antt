@@ -1,5 +1,5 @@
 -- The lines of a history as JSON (RFC 8259): the first, those of what was done, and the last. Numbers count from 0, but that of a line.
-use Rattle.std.specs.Prelude.{ℕ, ℤ, Bool, List, [], ◌∷◌, ◌++◌, codes, Option, None, Some, if◌then◌else◌}
+use Rattle.std.specs.Prelude.{ℕ, ℤ, ◌==◌, Bool, List, [], ◌∷◌, ◌++◌, codes, Option, None, Some, if◌then◌else◌}
 use Rattle.std.specs.Str.{is_utf8}
 use Rattle.hex.specs.Hex.{encode_lower}
 use Rattle.serde_json.specs.Data.{Data, Members as JsonMembers, no_members, null, boolean, object, array, string, number, unsigned, put}
@@ -84,6 +84,10 @@ abbrev pub offset_or_null : Option ℤ → Data
 offset_or_null None = null
 offset_or_null (Some z) = integer z
 
+-- the first group isn't named
+unfoldable pub with_group : ℕ → JsonMembers → JsonMembers
+with_group group ms = if group == 0 then ms else put (codes "group") (count group) ms
+
 unfoldable pub with_arguments : Event → JsonMembers → JsonMembers
 with_arguments (Feed source) ms = put (codes "source") (count source) ms
 with_arguments (Start application) ms = put (codes "application") (count application) ms
@@ -94,7 +98,7 @@ with_arguments (Commit session source offset) ms =
 with_arguments (End session kind) ms = put (codes "kind") (string (kind_word kind)) (put (codes "session") (count session) ms)
 with_arguments (Resume session) ms = put (codes "session") (count session) ms
 with_arguments (Fetch session source) ms = put (codes "source") (count source) (put (codes "session") (count session) ms)
-with_arguments Members ms = ms
+with_arguments (Members group) ms = with_group group ms
 with_arguments (BrokerRestart topic partition) ms = put (codes "partition") (count partition) (put (codes "topic") (topic_value topic) ms)
 with_arguments CoordinatorRestart ms = ms
 with_arguments (Deliver message) ms = put (codes "message") (count message) ms

@@ -3,8 +3,8 @@
 ghost use Rattle.std.specs.Prelude.{◌≡◌, IfOk, OnOk};
 ghost use Rattle.serde_json.specs.View.{view};
 ghost use Rattle.eos_history_lines.specs.steps.Held.{held};
-ghost use Rattle.eos_history_lines.specs.Lines.{with_claim, claimed, offset_or_null, with_arguments, with_event};
-ghost use Rattle.eos_history_lines.specs.steps.Reading.{event_in, plain_event, event_of_session, feed_in, start_in, deliver_in, time_out_in, restart_in, produce_in, commit_in, end_in, fetch_in, claim_within, claim_in, offset_within};
+ghost use Rattle.eos_history_lines.specs.Lines.{with_claim, claimed, offset_or_null, with_group, with_arguments, with_event};
+ghost use Rattle.eos_history_lines.specs.steps.Reading.{event_in, plain_event, event_of_session, feed_in, start_in, deliver_in, members_in, time_out_in, restart_in, produce_in, commit_in, end_in, fetch_in, claim_within, claim_in, offset_within};
 
 use crate::members::{count_in, integer_in, kind_called, size_in, small_in, text_in};
 use crate::object::Object;
@@ -62,9 +62,22 @@ fn put_arguments(alloc: Global, out: &mut Object, event: &Event) -> Result<(), A
             out.put_topic("topic", topic.as_slice())?;
             out.put_size("partition", *partition)
         }
-        Event::Members | Event::CoordinatorRestart => Ok(()),
+        Event::Members { group } => put_group(out, *group),
+        Event::CoordinatorRestart => Ok(()),
         Event::Deliver { message } => out.put_count("message", *message),
         Event::TimeOut { application } => out.put_size("application", *application),
+    }
+}
+
+/// Names a group, unless it is the first one.
+#[tactic(auto, unfolding(crate::specs::Lines::with_group))]
+fn put_group(out: &mut Object, group: usize) -> Result<(), AllocError>
+    ensures { OnOk result (held out.new ≡ with_group group (held out.old)) }
+{
+    if group == 0 {
+        Ok(())
+    } else {
+        out.put_size("group", group)
     }
 }
 
@@ -142,7 +155,7 @@ fn read_plain_event(word: &str, value: &Value) -> Option<Event>
     } else if word == "deliver" {
         read_delivery(value)
     } else if word == "members" {
-        Some(Event::Members)
+        read_members(value)
     } else if word == "coordinator-restart" {
         Some(Event::CoordinatorRestart)
     } else if word == "time-out" {
@@ -171,6 +184,17 @@ fn read_delivery(value: &Value) -> Option<Event>
 {
     let message = count_in(value, "message")?;
     Some(Event::Deliver { message })
+}
+
+/// Of the first group, where none is named.
+fn read_members(value: &Value) -> Option<Event>
+    ensures { result ≡ members_in (view value.now) }
+{
+    let Some(found) = value.get("group") else {
+        return Some(Event::Members { group: 0 });
+    };
+    let group = found.as_u64()? as usize;
+    Some(Event::Members { group })
 }
 
 fn read_time_out(value: &Value) -> Option<Event>

@@ -90,6 +90,9 @@ fn look_at_event(value: &Value, word: &str) -> Result<(), Mistake> {
         return Err(Mistake::UnknownEvent);
     };
     look_at(value, arguments)?;
+    if word == "members" && value.get("group").is_some() {
+        return look_at(value, &[("group", Wanted::Count)]);
+    }
     match value.get("claim") {
         Some(claim) if word == "produce" && claim.is_object() => look_at(
             claim,

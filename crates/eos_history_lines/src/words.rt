@@ -37,7 +37,7 @@ pub(crate) fn event_word(event: &Event) -> &'static str
         Event::End { .. } => "end",
         Event::Resume { .. } => "resume",
         Event::Fetch { .. } => "fetch",
-        Event::Members => "members",
+        Event::Members { .. } => "members",
         Event::BrokerRestart { .. } => "broker-restart",
         Event::CoordinatorRestart => "coordinator-restart",
         Event::Deliver { .. } => "deliver",

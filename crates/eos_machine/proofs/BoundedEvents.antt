@@ -6,10 +6,10 @@ use Rattle.std.proofs.lemmas.List.Elements.{All-nil, All-cons, All-head, All-tai
 use Rattle.std.proofs.lemmas.Bool.{and_parts, or_parts, eqb-true}
 use Rattle.eos_batch.specs.declared.marker.Kind.{Kind}
 use Rattle.eos_batch.specs.declared.marker.Kind.TheVariants.{Abort}
-use Rattle.eos_machine.specs.LogIndexes.{Config, application_count, txn_index, input_index, written_index, log_count, listed}
+use Rattle.eos_machine.specs.LogIndexes.{Config, application_count, group_count, txn_index, input_index, written_index, log_count, listed}
 use Rattle.eos_machine.specs.declared.switches.Switches.{Switches}
 use Rattle.eos_machine.specs.Switching.{none}
-use Rattle.eos_machine.specs.World.{Claim, Status, Empty, Ongoing, Prepare, Complete, Entry, Item, Fed, State, Output, Offset, Marker, Coordinator, Session, Message, World, Event, fresh, opening, log_at, coord_at, with_item, with_coord, said_entry, written, due_markers, prepared, finished, state_of}
+use Rattle.eos_machine.specs.World.{Claim, Status, Empty, Ongoing, Prepare, Complete, Entry, Item, Fed, State, Output, Offset, Marker, Coordinator, Session, Message, World, Event, fresh, opening, log_at, coord_at, generation_at, generation_of, with_item, with_coord, said_entry, written, due_markers, prepared, finished, state_of}
 use Rattle.eos_machine.specs.declared.state.Message.TheVariants as messages
 use Rattle.eos_machine.specs.declared.event.Event.TheVariants as events
 use Rattle.eos_machine.specs.Logs.{entries_of, last_state}
@@ -49,7 +49,7 @@ bounded_more n w b = record {
   logs = All-weaker (All (IsWithin n)) (All (IsWithin (n + 1))) (λ xs h. All-weaker (IsWithin n) (IsWithin (n + 1)) (item_more n) xs h) w.logs b.logs;
   messages = All-weaker (IsSent n) (IsSent (n + 1)) (message_more n) w.messages b.messages;
   sessions = All-weaker (IsSafe n) (IsSafe (n + 1)) (session_more n) w.sessions b.sessions;
-  generation = omega (arith, b.generation);
+  generations = sequences_more n w.generations b.generations;
 }
 
 -- ---- parts
@@ -64,6 +64,9 @@ log_within n w p b = all_at (All (IsWithin n)) w.logs p [] (All-nil (IsWithin n)
 
 pub coord_within : (n : ℕ) (w : World) (a : ℕ) → Bounded n w → Limit (coord_at w a).status (coord_at w a).epoch
 coord_within n w a b = all_at (λ s. Limit s.status s.epoch) w.coordinators a fresh (omega arith) b.coordinators
+
+pub generation_within : (n : ℕ) (w : World) (g : ℕ) → Bounded n w → generation_at w g ≤ n
+generation_within n w g b = all_at (λ k. k ≤ n) w.generations g 0 (omega arith) b.generations
 
 limit_top : (t : Status) (e : ℕ) → Limit t e → e ≤ last_epoch + 1
 limit_top Empty e h = omega (arith, h)
@@ -101,7 +104,7 @@ bounded_item n w p x b h = record {
   logs = All-set (All (IsWithin n)) w.logs p (log_at w p ++ x ∷ []) (All-push (IsWithin n) (log_at w p) x (log_within n w p b) h) b.logs;
   messages = b.messages;
   sessions = b.sessions;
-  generation = b.generation;
+  generations = b.generations;
 }
 
 bounded_coord : (n : ℕ) (w : World) (a : ℕ) (s : Coordinator) → Bounded n w → Limit s.status s.epoch → Bounded n (with_coord w a s)
@@ -110,18 +113,18 @@ bounded_coord n w a s b h = record {
   logs = b.logs;
   messages = b.messages;
   sessions = b.sessions;
-  generation = b.generation;
+  generations = b.generations;
 }
 
 bounded_written : (n : ℕ) (u : Switches) (c : Config) (w : World) (a : ℕ) (x : Entry) → Bounded n w → Limit x.status x.epoch → Bounded n (written u c w a x)
 bounded_written n u c w a x b h = bounded_coord n (with_item w (txn_index c a) (State a (said_entry u c x) w.events)) a (state_of x) (bounded_item n w (txn_index c a) (State a (said_entry u c x) w.events) b h) h
 
 -- other messages, sessions and numbers
-abbrev pub like : World → List Message → List Bool → List Session → ℕ → ℕ → World
-like w ms ac ss g n = record { logs = w.logs; coordinators = w.coordinators; messages = ms; accepted = ac; sessions = ss; generation = g; events = n }
+abbrev pub like : World → List Message → List Bool → List Session → List ℕ → ℕ → World
+like w ms ac ss gs n = record { logs = w.logs; coordinators = w.coordinators; messages = ms; accepted = ac; sessions = ss; generations = gs; events = n }
 
-bounded_like : (n : ℕ) (w : World) (ms : List Message) (ac : List Bool) (ss : List Session) (g m : ℕ) → Bounded n w → All (IsSent n) ms → All (IsSafe n) ss → g ≤ n → Bounded n (like w ms ac ss g m)
-bounded_like n w ms ac ss g m b h k l = record { coordinators = b.coordinators; logs = b.logs; messages = h; sessions = k; generation = l }
+bounded_like : (n : ℕ) (w : World) (ms : List Message) (ac : List Bool) (ss : List Session) (gs : List ℕ) (m : ℕ) → Bounded n w → All (IsSent n) ms → All (IsSafe n) ss → All (λ g. g ≤ n) gs → Bounded n (like w ms ac ss gs m)
+bounded_like n w ms ac ss gs m b h k l = record { coordinators = b.coordinators; logs = b.logs; messages = h; sessions = k; generations = l }
 
 sent_markers : (n a e : ℕ) (k : Kind) (ps : List ℕ) → e ≤ last_epoch + 1 → All (IsSent n) (due_markers a e k ps)
 sent_markers n a e k [] h = All-nil (IsSent n)
@@ -131,7 +134,7 @@ bounded_prepared : (n : ℕ) (u : Switches) (c : Config) (w : World) (a : ℕ) (
 bounded_prepared n u c w a k ps b l =
     let x : Entry = record { status = Prepare k; epoch = (coord_at w a).epoch + 1; partitions = ps } in
     let v = bounded_written n u c w a x b (omega (arith, l)) in
-    bounded_like n (written u c w a x) _ _ _ _ _ v (All-append (IsSent n) w.messages (due_markers a ((coord_at w a).epoch + 1) k ps) b.messages (sent_markers n a ((coord_at w a).epoch + 1) k ps (omega (arith, l)))) b.sessions b.generation
+    bounded_like n (written u c w a x) _ _ _ _ _ v (All-append (IsSent n) w.messages (due_markers a ((coord_at w a).epoch + 1) k ps) b.messages (sent_markers n a ((coord_at w a).epoch + 1) k ps (omega (arith, l)))) b.sessions b.generations
 
 bounded_finished : (n : ℕ) (u : Switches) (c : Config) (w : World) (a : ℕ) (k : Kind) → Bounded n w → Bounded n (finished u c w a k)
 bounded_finished n u c w a k b = bounded_written n u c w a (record { status = Complete k; epoch = (coord_at w a).epoch; partitions = [] }) b (limit_top (coord_at w a).status (coord_at w a).epoch (coord_within n w a b))
@@ -146,7 +149,7 @@ bounded_partition n u c w a p b l =
 bounded_appended : (n : ℕ) (w : World) (m p : ℕ) (x : Item) → Bounded n w → IsWithin n x → Bounded n (appended w m p x)
 bounded_appended n w m p x b h =
     let i = bounded_item n w p x b h in
-    bounded_like n (with_item w p x) _ _ _ _ _ i i.messages i.sessions i.generation
+    bounded_like n (with_item w p x) _ _ _ _ _ i i.messages i.sessions i.generations
 
 bounded_accept : (n : ℕ) (u : Switches) (c : Config) (w : World) (m a p : ℕ) (x : Item) → Bounded n w → (coord_at w a).epoch ≤ last_epoch → IsWithin n x → Bounded n (accept u c w m a p x)
 bounded_accept n u c w m a p x b l h =
@@ -223,8 +226,8 @@ safe_at n (s ∷ ss) (suc i) h = safe_at n ss i (All-tail (IsSafe n) s ss h)
 pub sequence_within : (n : ℕ) (s : Session) (p : ℕ) → IsSafe n s → sequence_of s p ≤ n
 sequence_within n s p h = all_at (λ q. q ≤ n) s.sequences p 0 (omega arith) h.1
 
-bounded_sent : (n : ℕ) (w : World) (m : ℕ) (s : Session) (x : Message) → Bounded n w → IsSafe n s → IsSent n x → Bounded n (like w (w.messages ++ x ∷ []) (w.accepted ++ false ∷ []) (slice_set w.sessions m s) w.generation w.events)
-bounded_sent n w m s x b h k = bounded_like n w _ _ _ _ _ b (All-push (IsSent n) w.messages x b.messages k) (All-set (IsSafe n) w.sessions m s h b.sessions) b.generation
+bounded_sent : (n : ℕ) (w : World) (m : ℕ) (s : Session) (x : Message) → Bounded n w → IsSafe n s → IsSent n x → Bounded n (like w (w.messages ++ x ∷ []) (w.accepted ++ false ∷ []) (slice_set w.sessions m s) w.generations w.events)
+bounded_sent n w m s x b h k = bounded_like n w _ _ _ _ _ b (All-push (IsSent n) w.messages x b.messages k) (All-set (IsSafe n) w.sessions m s h b.sessions) b.generations
 
 bounded_produce : (n : ℕ) (c : Config) (w : World) (m p : ℕ) (x : Option Claim) (r : Option Session) → Bounded n w → SafeIf n r → Bounded (n + 1) (produce c w m p x r).0
 bounded_produce n c w m p x None b h = bounded_more n w b
@@ -252,7 +255,7 @@ bounded_ended : (n : ℕ) (c : Config) (w : World) (m : ℕ) (s : Session) (k : 
 bounded_ended n c w m s None b = b
 bounded_ended n c w m s (Some k) b =
     bounded_if n _ _ _ (λ t. b) (λ f1. bounded_if n _ _ _ (λ t. b) (λ f2. bounded_if n _ _ _ (λ t. b) (λ f3.
-    bounded_like n w _ _ _ _ _ b b.messages (All-set (IsSafe n) w.sessions m (after_resume c s) (not_lt last_epoch (s.epoch + 1) f3, none_sent n c.outputs) b.sessions) b.generation)))
+    bounded_like n w _ _ _ _ _ b b.messages (All-set (IsSafe n) w.sessions m (after_resume c s) (not_lt last_epoch (s.epoch + 1) f3, none_sent n c.outputs) b.sessions) b.generations)))
 
 bounded_resume : (n : ℕ) (c : Config) (w : World) (m : ℕ) (r : Option Session) → Bounded n w → Bounded n (resume c w m r).0
 bounded_resume n c w m None b = b
@@ -268,7 +271,7 @@ bounded_session n u c w a e b =
     let low = not_lt last_epoch e f in
     let x : Entry = record { status = Empty; epoch = e; partitions = [] } in
     let v = bounded_written n u c w a x b low in
-    bounded_like n (written u c w a x) _ _ _ _ _ v v.messages (All-push (IsSafe n) w.sessions (new_session c a e w.generation) b.sessions (low, none_sent n c.outputs)) b.generation)
+    bounded_like n (written u c w a x) _ _ _ _ _ v v.messages (All-push (IsSafe n) w.sessions (new_session c a e (generation_of c w a)) b.sessions (low, none_sent n c.outputs)) b.generations)
 
 bounded_start : (n : ℕ) (u : Switches) (c : Config) (w : World) (a : ℕ) → Bounded n w → Bounded n (start u c w a).0
 bounded_start n u c w a b =
@@ -317,7 +320,10 @@ bounded_event n u c w (events.Commit m q v) b = bounded_commit (n + 1) c w m q v
 bounded_event n u c w (events.End m k) b = let d = bounded_more n w b in bounded_end (n + 1) w m k (slice_get w.sessions m) d (safe_at (n + 1) w.sessions m d.sessions)
 bounded_event n u c w (events.Resume m) b = bounded_resume (n + 1) c w m (slice_get w.sessions m) (bounded_more n w b)
 bounded_event n u c w (events.Fetch m q) b = bounded_fetch (n + 1) c w q (slice_get w.sessions m) (bounded_more n w b)
-bounded_event n u c w events.Members b = let d = bounded_more n w b in bounded_like (n + 1) w _ _ _ _ _ d d.messages d.sessions (omega (arith, b.generation))
+bounded_event n u c w (events.Members g) b =
+    let d = bounded_more n w b in
+    let l = generation_within n w g b in
+    bounded_if (n + 1) _ _ _ (λ t. d) (λ f. bounded_like (n + 1) w _ _ _ _ _ d d.messages d.sessions (All-set (λ k. k ≤ n + 1) w.generations g (generation_at w g + 1) (omega (arith, l)) d.generations))
 bounded_event n u c w (events.BrokerRestart t p) b = let d = bounded_more n w b in bounded_if (n + 1) _ _ _ (λ t. d) (λ f. d)
 bounded_event n u c w events.CoordinatorRestart b =
     let d = bounded_more n w b in
@@ -327,7 +333,7 @@ bounded_event n u c w events.CoordinatorRestart b =
       messages = All-append (IsSent (n + 1)) w.messages (flat_map (queued_again c w) (range_with_len 0 (length w.coordinators))) d.messages
           (all_flat (IsSent (n + 1)) (queued_again c w) (range_with_len 0 (length w.coordinators)) (λ a. due_within (n + 1) a (reread c w a).status (reread c w a).epoch (reread c w a).partitions (reread_within (n + 1) c w a d)));
       sessions = d.sessions;
-      generation = d.generation;
+      generations = d.generations;
     }
 bounded_event n u c w (events.Deliver m) b = let d = bounded_more n w b in bounded_deliver (n + 1) u c w m (slice_get w.messages m) d (message_at (n + 1) w.messages m d.messages)
 bounded_event n u c w (events.TimeOut a) b =
@@ -342,7 +348,7 @@ bounded_opening c = record {
   logs = all_replicated (All (IsWithin 0)) (log_count c) [] (All-nil (IsWithin 0));
   messages = All-nil (IsSent 0);
   sessions = All-nil (IsSafe 0);
-  generation = omega arith;
+  generations = all_replicated (λ g. g ≤ 0) (group_count c) 0 (omega arith);
 }
   where
     all_replicated : {X : Type 0} (P : X → Type 0) (n : ℕ) (x : X) → P x → All P (replicate n x)
@@ -354,7 +360,7 @@ abbrev pub IsBounded : World → Type 0
 IsBounded w = Bounded w.events w
 
 bounded_counted : (n : ℕ) (x : Answer) → Bounded (n + 1) x.0 → IsBounded (counted n x).0
-bounded_counted n x b = bounded_like (n + 1) x.0 _ _ _ _ _ b b.messages b.sessions b.generation
+bounded_counted n x b = bounded_like (n + 1) x.0 _ _ _ _ _ b b.messages b.sessions b.generations
 
 step_if : (t : Bool) (x y : Answer) → IsBounded x.0 → IsBounded y.0 → IsBounded (when t x y).0
 unfolding when

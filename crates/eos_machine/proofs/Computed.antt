@@ -7,7 +7,7 @@ use Rattle.eos_machine.specs.World.{World}
 use Rattle.eos_machine.specs.Switching.{none}
 use Rattle.eos_machine.specs.Machine.{step, world_after, world_under}
 use Rattle.eos_machine.specs.SwitchedSchedules.{Breaks, all_under}
-use Rattle.eos_machine.specs.ShortSchedules.{Commits, Restarts, Fences, TimesOut, Fetches, Omits, Lists, Chains}
+use Rattle.eos_machine.specs.ShortSchedules.{Commits, Restarts, Fences, TimesOut, Fetches, Omits, Lists, Chains, Rebalances}
 
 pub commits : Commits
 unfolding when
@@ -40,6 +40,10 @@ lists = record { replies = refl; markers = refl }
 pub chains : Chains
 unfolding when
 chains = record { replies = refl; output = refl; final = refl; offsets = refl }
+
+pub rebalances : Rebalances
+unfolding when
+rebalances = record { replies = refl; offsets = refl; generations = refl; single = refl }
 
 pub breaks : Breaks
 unfolding when

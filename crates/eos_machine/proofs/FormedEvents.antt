@@ -9,8 +9,8 @@ use Rattle.std.proofs.lemmas.Bool.{or_parts}
 use Rattle.eos_batch.specs.declared.marker.Kind.{Kind}
 use Rattle.eos_batch.specs.declared.marker.Kind.TheVariants.{Abort}
 use Rattle.eos_machine.specs.declared.switches.Switches.{Switches}
-use Rattle.eos_machine.specs.LogIndexes.{Config, application_count, txn_index, input_index, written_index, listed}
-use Rattle.eos_machine.specs.World.{Claim, Status, Empty, Ongoing, Prepare, Complete, Entry, Item, Fed, State, Output, Offset, Coordinator, Session, Message, World, Event, fresh, opening, log_at, coord_at, with_item, with_coord, said_entry, state_of, written, due_markers, prepared, finished}
+use Rattle.eos_machine.specs.LogIndexes.{Config, application_count, group_count, txn_index, input_index, written_index, listed}
+use Rattle.eos_machine.specs.World.{Claim, Status, Empty, Ongoing, Prepare, Complete, Entry, Item, Fed, State, Output, Offset, Coordinator, Session, Message, World, Event, fresh, opening, log_at, coord_at, generation_at, generation_of, with_item, with_coord, said_entry, state_of, written, due_markers, prepared, finished}
 use Rattle.eos_machine.specs.declared.state.Message.TheVariants as messages
 use Rattle.eos_machine.specs.declared.event.Event.TheVariants as events
 use Rattle.eos_machine.specs.Rules.{marker_of}
@@ -34,10 +34,10 @@ not_false false h = absurd cc
 -- ---- changes
 
 formed_item : (c : Config) (w : World) (p : ℕ) (x : Item) → IsFormed c w → IsFormed c (with_item w p x)
-formed_item c w p x f = record { coordinators = f.coordinators; messages = f.messages; sessions = f.sessions }
+formed_item c w p x f = record { coordinators = f.coordinators; messages = f.messages; sessions = f.sessions; generations = f.generations }
 
 formed_coord : (c : Config) (w : World) (a : ℕ) (s : Coordinator) → IsFormed c w → IsFormed c (with_coord w a s)
-formed_coord c w a s f = record { coordinators = length-set w.coordinators a s ∙ f.coordinators; messages = f.messages; sessions = f.sessions }
+formed_coord c w a s f = record { coordinators = length-set w.coordinators a s ∙ f.coordinators; messages = f.messages; sessions = f.sessions; generations = f.generations }
 
 formed_written : (u : Switches) (c : Config) (w : World) (a : ℕ) (x : Entry) → IsFormed c w → IsFormed c (written u c w a x)
 formed_written u c w a x f = formed_coord c (with_item w (txn_index c a) (State a (said_entry u c x) w.events)) a (state_of x) (formed_item c w (txn_index c a) (State a (said_entry u c x) w.events) f)
@@ -50,7 +50,7 @@ formed_prepared : (u : Switches) (c : Config) (w : World) (a : ℕ) (k : Kind) (
 formed_prepared u c w a k ps l f =
     let e : ℕ = (coord_at w a).epoch + 1 in
     let v = formed_written u c w a (record { status = Prepare k; epoch = e; partitions = ps }) f in
-    record { coordinators = v.coordinators; messages = All-append (Names c) w.messages (due_markers a e k ps) f.messages (markers_named c a e k ps l); sessions = f.sessions }
+    record { coordinators = v.coordinators; messages = All-append (Names c) w.messages (due_markers a e k ps) f.messages (markers_named c a e k ps l); sessions = f.sessions; generations = f.generations }
 
 formed_finished : (u : Switches) (c : Config) (w : World) (a : ℕ) (k : Kind) → IsFormed c w → IsFormed c (finished u c w a k)
 formed_finished u c w a k f = formed_written u c w a (record { status = Complete k; epoch = (coord_at w a).epoch; partitions = [] }) f
@@ -64,7 +64,7 @@ formed_partition u c w a p f =
     ]
 
 formed_appended : (c : Config) (w : World) (n p : ℕ) (x : Item) → IsFormed c w → IsFormed c (appended w n p x)
-formed_appended c w n p x f = record { coordinators = f.coordinators; messages = f.messages; sessions = f.sessions }
+formed_appended c w n p x f = record { coordinators = f.coordinators; messages = f.messages; sessions = f.sessions; generations = f.generations }
 
 formed_accept : (u : Switches) (c : Config) (w : World) (n a p : ℕ) (x : Item) → IsFormed c w → IsFormed c (accept u c w n a p x)
 formed_accept u c w n a p x f = formed_appended c (with_partition u c w a p) n p x (formed_partition u c w a p f)
@@ -129,6 +129,7 @@ formed_sent c w n s x f o h = record {
   coordinators = f.coordinators;
   messages = All-push (Names c) w.messages x f.messages h;
   sessions = All-set (IsOfOne c) w.sessions n s o f.sessions;
+  generations = f.generations;
 }
 
 formed_produce : (c : Config) (w : World) (n p : ℕ) (x : Option Claim) (r : Option Session) → IsFormed c w → OneIf c r → IsFormed c (produce c w n p x r).0
@@ -154,7 +155,7 @@ formed_end c w n k (Some s) f o = formed_if c _ _ _ f (λ f1. formed_sent c w n 
 formed_ended : (c : Config) (w : World) (n : ℕ) (s : Session) (r : Option Kind) → IsFormed c w → IsOfOne c s → IsFormed c (resume_ended c w n s r).0
 formed_ended c w n s None f o = f
 formed_ended c w n s (Some k) f o = formed_if c _ _ _ f (λ f1. formed_if c _ _ _ f (λ f2. formed_if c _ _ _ f (λ f3.
-    record { coordinators = f.coordinators; messages = f.messages; sessions = All-set (IsOfOne c) w.sessions n (after_resume c s) o f.sessions })))
+    record { coordinators = f.coordinators; messages = f.messages; sessions = All-set (IsOfOne c) w.sessions n (after_resume c s) o f.sessions; generations = f.generations })))
 
 formed_resume : (c : Config) (w : World) (n : ℕ) (r : Option Session) → IsFormed c w → OneIf c r → IsFormed c (resume c w n r).0
 formed_resume c w n None f o = f
@@ -167,7 +168,7 @@ formed_fetch c w q (Some s) f = formed_if c _ _ _ f (λ f1. formed_if c _ _ _ f 
 formed_session : (u : Switches) (c : Config) (w : World) (a e : ℕ) → a < application_count c → IsFormed c w → IsFormed c (start_session u c w a e).0
 formed_session u c w a e l f = formed_if c _ _ _ f (λ f1.
     let v = formed_written u c w a (record { status = Empty; epoch = e; partitions = [] }) f in
-    record { coordinators = v.coordinators; messages = f.messages; sessions = All-push (IsOfOne c) w.sessions (new_session c a e w.generation) f.sessions l })
+    record { coordinators = v.coordinators; messages = f.messages; sessions = All-push (IsOfOne c) w.sessions (new_session c a e (generation_of c w a)) f.sessions l; generations = f.generations })
 
 formed_start : (u : Switches) (c : Config) (w : World) (a : ℕ) → IsFormed c w → IsFormed c (start u c w a).0
 formed_start u c w a f = formed_if c _ _ _ f (λ f1.
@@ -197,13 +198,14 @@ formed_event u c w (events.Commit n q v) f = formed_commit c w n q v f
 formed_event u c w (events.End n k) f = formed_end c w n k (slice_get w.sessions n) f (session_at c w.sessions n f.sessions)
 formed_event u c w (events.Resume n) f = formed_resume c w n (slice_get w.sessions n) f (session_at c w.sessions n f.sessions)
 formed_event u c w (events.Fetch n q) f = formed_fetch c w q (slice_get w.sessions n) f
-formed_event u c w events.Members f = record { coordinators = f.coordinators; messages = f.messages; sessions = f.sessions }
+formed_event u c w (events.Members g) f = formed_if c _ _ _ f (λ f1. record { coordinators = f.coordinators; messages = f.messages; sessions = f.sessions; generations = length-set w.generations g (generation_at w g + 1) ∙ f.generations })
 formed_event u c w (events.BrokerRestart t p) f = formed_if c _ _ _ f (λ f1. f)
 formed_event u c w events.CoordinatorRestart f = record {
   coordinators = length-map (range_with_len 0 (length w.coordinators)) (reread c w) ∙ (length-range_with_len 0 (length w.coordinators) ∙ f.coordinators);
   messages = All-append (Names c) w.messages (flat_map (queued_again c w) (range_with_len 0 (length w.coordinators))) f.messages
       (all_flat (Names c) (queued_again c w) 0 (length w.coordinators) (λ a l. due_named c a (reread c w a).status (reread c w a).epoch (reread c w a).partitions (omega (arith, l, f.coordinators))));
   sessions = f.sessions;
+  generations = f.generations;
 }
 formed_event u c w (events.Deliver n) f = formed_deliver u c w n (slice_get w.messages n) f (message_at c w.messages n f.messages)
 formed_event u c w (events.TimeOut a) f = formed_if c _ _ _ f (λ f1.
@@ -211,13 +213,13 @@ formed_event u c w (events.TimeOut a) f = formed_if c _ _ _ f (λ f1.
     formed_if c _ _ _ f (λ f2. formed_deliver u c w 0 (Some (messages.End a (coord_at w a).epoch Abort)) f l))
 
 formed_counted : (c : Config) (n : ℕ) (x : Answer) → IsFormed c x.0 → IsFormed c (counted n x).0
-formed_counted c n x f = record { coordinators = f.coordinators; messages = f.messages; sessions = f.sessions }
+formed_counted c n x f = record { coordinators = f.coordinators; messages = f.messages; sessions = f.sessions; generations = f.generations }
 
 formed_step : (u : Switches) (c : Config) (w : World) (e : Event) → IsFormed c w → IsFormed c (step_under u c w e).0
 formed_step u c w e f = formed_if c _ _ _ f (λ h. formed_counted c w.events (happens_under u c w e) (formed_event u c w e f))
 
 pub formed_opening : (c : Config) → IsFormed c (opening c)
-formed_opening c = record { coordinators = length-replicate (application_count c) fresh; messages = All-nil (Names c); sessions = All-nil (IsOfOne c) }
+formed_opening c = record { coordinators = length-replicate (application_count c) fresh; messages = All-nil (Names c); sessions = All-nil (IsOfOne c); generations = length-replicate (group_count c) 0 }
 
 pub formed_run : (c : Config) (w : World) (xs : List (Switches × Event)) → IsFormed c w → IsFormed c (world_under c w xs)
 formed_run c w [] f = f

@@ -13,7 +13,7 @@ use Rattle.eos_touch.specs.Pair.{same_kind}
 use Rattle.std.proofs.lemmas.List.{length-set}
 use Rattle.eos_machine.specs.LogIndexes.{Config, application_count, IsConfig, offsets_index, txn_index, input_index, written_index, is_sequenced, same_topic, listed}
 use Rattle.eos_machine.specs.Switching.{none}
-use Rattle.eos_machine.specs.World.{Claim, Status, Empty, Ongoing, Prepare, Complete, Entry, Item, State, Output, Offset, Marker, Coordinator, Session, Message, World, Event, log_at, fresh, coord_at, state_of, with_item, with_coord, written, due_markers, prepared, finished}
+use Rattle.eos_machine.specs.World.{Claim, Status, Empty, Ongoing, Prepare, Complete, Entry, Item, State, Output, Offset, Marker, Coordinator, Session, Message, World, Event, log_at, fresh, coord_at, generation_of, state_of, with_item, with_coord, written, due_markers, prepared, finished}
 use Rattle.eos_machine.specs.declared.state.Message.TheVariants as messages
 use Rattle.eos_machine.specs.declared.event.Event.TheVariants as events
 use Rattle.eos_machine.specs.Application.{Mark, Batch, End, Decision, IsOrdered}
@@ -151,16 +151,16 @@ range_written c w a p x r = range_coord c (with_item w (txn_index c a) (State a 
 -- ---- what isn't of logs and states
 
 -- other messages, sessions and numbers
-abbrev pub like : World → List Message → List Bool → List Session → ℕ → ℕ → World
-like w ms ac ss g n = record { logs = w.logs; coordinators = w.coordinators; messages = ms; accepted = ac; sessions = ss; generation = g; events = n }
+abbrev pub like : World → List Message → List Bool → List Session → List ℕ → ℕ → World
+like w ms ac ss gs n = record { logs = w.logs; coordinators = w.coordinators; messages = ms; accepted = ac; sessions = ss; generations = gs; events = n }
 
-due_like : (c : Config) (w : World) (ms : List Message) (ac : List Bool) (ss : List Session) (g n : ℕ) (x : Message) → IsDue c w x → IsDue c (like w ms ac ss g n) x
-due_like c w ms ac ss g n (messages.Output a f p s x v) h = h
-due_like c w ms ac ss g n (messages.Offset a f y q v) h = h
-due_like c w ms ac ss g n (messages.End a f k) h = h
-due_like c w ms ac ss g n (messages.Marker a m k p) h = h
+due_like : (c : Config) (w : World) (ms : List Message) (ac : List Bool) (ss : List Session) (gs : List ℕ) (n : ℕ) (x : Message) → IsDue c w x → IsDue c (like w ms ac ss gs n) x
+due_like c w ms ac ss gs n (messages.Output a f p s x v) h = h
+due_like c w ms ac ss gs n (messages.Offset a f y q v) h = h
+due_like c w ms ac ss gs n (messages.End a f k) h = h
+due_like c w ms ac ss gs n (messages.Marker a m k p) h = h
 
-pub good_like : (c : Config) (w : World) (ms : List Message) (ac : List Bool) (ss : List Session) (g n : ℕ) → Good c w → All (IsDue c w) ms → All (IsOfOne c) ss → Good c (like w ms ac ss g n)
+pub good_like : (c : Config) (w : World) (ms : List Message) (ac : List Bool) (ss : List Session) (gs : List ℕ) (n : ℕ) → Good c w → All (IsDue c w) ms → All (IsOfOne c) ss → Good c (like w ms ac ss gs n)
 good_like c w ms ac ss y n g d o = record {
   apps = g.apps;
   brokers = g.brokers;
@@ -239,7 +239,7 @@ good_prepared c w a p k ps g r here grows mv =
     let e = app_written c w a x r.app r.txn (g.read a) in
     let la : a < application_count c = omega (arith, r.app, g.coordinators) in
     let one : (q : ℕ) → Contains ps q → IsDue c (written none c w a x) (messages.Marker a ((coord_at w a).epoch + 1) k q) = λ q i. (la, all_here (IsPlace c) ps here q i, subst (λ (s : App). IsOrdered s.decisions q ((coord_at w a).epoch + 1) k) (sym e) (inv.orders q i)) in
-    good_like c (written none c w a x) (w.messages ++ due_markers a ((coord_at w a).epoch + 1) k ps) _ w.sessions w.generation w.events h
+    good_like c (written none c w a x) (w.messages ++ due_markers a ((coord_at w a).epoch + 1) k ps) _ w.sessions w.generations w.events h
     (All-append (IsDue c (written none c w a x)) w.messages (due_markers a ((coord_at w a).epoch + 1) k ps) h.due
     (All-map (IsDue c (written none c w a x)) (messages.Marker a ((coord_at w a).epoch + 1) k) ps (All-weaker (Contains ps) (λ q. IsDue c (written none c w a x) (messages.Marker a ((coord_at w a).epoch + 1) k q)) one ps (All-contains_itself ps))))
     g.sessions
@@ -406,7 +406,7 @@ good_session c w a e g r i le =
     good_if c _ _ _ (λ h. g) (λ f.
     let x : Entry = record { status = Empty; epoch = e; partitions = [] } in
     let gw : Good c (written none c w a x) = good_written c w a x g r.app r.txn (All-nil (IsPlace c)) (begun_keeps (app_of c w a) e (g.apps a) i le) (moves_empty (coord_at w a).started (coord_at w a).status (coord_at w a).epoch e i) in
-    good_like c (written none c w a x) _ _ _ _ _ gw gw.due (All-push (IsOfOne c) w.sessions (new_session c a e w.generation) g.sessions (omega (arith, r.app, g.coordinators))))
+    good_like c (written none c w a x) _ _ _ _ _ gw gw.due (All-push (IsOfOne c) w.sessions (new_session c a e (generation_of c w a)) g.sessions (omega (arith, r.app, g.coordinators))))
 
 good_start : (c : Config) (w : World) (a : ℕ) → IsConfig c → Good c w → Good c (start none c w a).0
 good_start c w a i g =
@@ -439,7 +439,7 @@ session_at c (x ∷ ss) (suc n) h = session_at c ss n (All-tail (IsOfOne c) x ss
 
 -- its message is queued
 good_sent : (c : Config) (w : World) (n : ℕ) (s : Session) (x : Message) → Good c w → IsOfOne c s → IsDue c w x → Good c (sent w n s x)
-good_sent c w n s x g o d = good_like c w (w.messages ++ x ∷ []) _ _ w.generation w.events g (All-push (IsDue c w) w.messages x g.due d) (All-set (IsOfOne c) w.sessions n s o g.sessions)
+good_sent c w n s x g o d = good_like c w (w.messages ++ x ∷ []) _ _ w.generations w.events g (All-push (IsDue c w) w.messages x g.due d) (All-set (IsOfOne c) w.sessions n s o g.sessions)
 
 good_produce : (c : Config) (w : World) (n p : ℕ) (x : Option Claim) (r : Option Session) → Good c w → OneIf c r → Good c (produce c w n p x r).0
 good_produce c w n p x None g o = g
@@ -559,7 +559,7 @@ good_event c w (events.Commit n q v) i g = good_commit c w n q v g
 good_event c w (events.End n k) i g = good_end_session c w n k (slice_get w.sessions n) g (session_at c w.sessions n g.sessions)
 good_event c w (events.Resume n) i g = good_resume c w n (slice_get w.sessions n) g (session_at c w.sessions n g.sessions)
 good_event c w (events.Fetch n q) i g = good_fetch c w q (slice_get w.sessions n) g
-good_event c w events.Members i g = good_like c w _ _ _ _ _ g g.due g.sessions
+good_event c w (events.Members m) i g = good_if c _ _ _ (λ h. g) (λ h. good_like c w _ _ _ _ _ g g.due g.sessions)
 good_event c w (events.BrokerRestart t p) i g = good_if c _ _ _ (λ h. g) (λ h. g)
 good_event c w events.CoordinatorRestart i g = good_restarted c w g
 good_event c w (events.Deliver n) i g = good_deliver c w n (slice_get w.messages n) i g (due_at c w w.messages n g.due)

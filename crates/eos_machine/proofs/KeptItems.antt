@@ -66,7 +66,7 @@ TopicIs P (events.Commit n q v) = ⊤
 TopicIs P (events.End n k) = ⊤
 TopicIs P (events.Resume n) = ⊤
 TopicIs P (events.Fetch n q) = ⊤
-TopicIs P events.Members = ⊤
+TopicIs P (events.Members g) = ⊤
 TopicIs P (events.BrokerRestart t p) = ⊤
 TopicIs P events.CoordinatorRestart = ⊤
 TopicIs P (events.Deliver n) = ⊤
@@ -233,8 +233,8 @@ kept_deliver P c n u w m (Some (messages.Marker a t k p)) e h f i =
 kept_sent : (P : List ℕ → Type 0) (c : Config) (k : ℕ) (w : World) (n : ℕ) (s : Session) (x : Message) → Kept P c k w → KeptMessage P c x → Kept P c k (sent w n s x)
 kept_sent P c k w n s x h i = record { coordinators = h.coordinators; logs = h.logs; messages = All-push (KeptMessage P c) w.messages x h.messages i; count = h.count }
 
-kept_like : (P : List ℕ → Type 0) (c : Config) (k : ℕ) (w : World) (ss : List Session) (ac : List Bool) (g n : ℕ) → Kept P c k w → Kept P c k (record { logs = w.logs; coordinators = w.coordinators; messages = w.messages; accepted = ac; sessions = ss; generation = g; events = n })
-kept_like P c k w ss ac g n h = record { coordinators = h.coordinators; logs = h.logs; messages = h.messages; count = h.count }
+kept_like : (P : List ℕ → Type 0) (c : Config) (k : ℕ) (w : World) (ss : List Session) (ac : List Bool) (gs : List ℕ) (n : ℕ) → Kept P c k w → Kept P c k (record { logs = w.logs; coordinators = w.coordinators; messages = w.messages; accepted = ac; sessions = ss; generations = gs; events = n })
+kept_like P c k w ss ac gs n h = record { coordinators = h.coordinators; logs = h.logs; messages = h.messages; count = h.count }
 
 kept_produce : (P : List ℕ → Type 0) (c : Config) (k : ℕ) (w : World) (n p : ℕ) (x : Option Claim) (r : Option Session) → w.events < 2 ^ 31 → (length (claimed_topic x) ≤ 249 → P (claimed_topic x)) → Kept P c k w → Kept P c k (produce c w n p x r).0
 kept_produce P c k w n p x None e t h = h
@@ -321,7 +321,7 @@ kept_event P c k u w (events.Commit m q v) n f t h = kept_more P c k (k + 2) _ (
 kept_event P c k u w (events.End m i) n f t h = kept_more P c k (k + 2) _ (omega arith) (kept_end P c k w m i (slice_get w.sessions m) h)
 kept_event P c k u w (events.Resume m) n f t h = kept_more P c k (k + 2) _ (omega arith) (kept_resume P c k w m (slice_get w.sessions m) h)
 kept_event P c k u w (events.Fetch m q) n f t h = kept_more P c k (k + 2) _ (omega arith) (kept_fetch P c k w q (slice_get w.sessions m) h)
-kept_event P c k u w events.Members n f t h = kept_more P c k (k + 2) _ (omega arith) (kept_like P c k w _ _ _ _ h)
+kept_event P c k u w (events.Members g) n f t h = let d = kept_more P c k (k + 2) w (omega arith) h in kept_if P c (k + 2) _ _ _ d (λ f1. kept_like P c (k + 2) w _ _ _ _ d)
 kept_event P c k u w (events.BrokerRestart s p) n f t h = let d = kept_more P c k (k + 2) w (omega arith) h in kept_if P c (k + 2) _ _ _ d (λ f1. d)
 kept_event P c k u w events.CoordinatorRestart n f t h = record {
   coordinators = all_of_each (λ s. AreListed c s.partitions) (reread c w) (range_with_len 0 (length w.coordinators)) (λ a. last_kept P c fresh a (log_at w (txn_index c a)) (none_listed c) (log_kept P c k w (txn_index c a) h));

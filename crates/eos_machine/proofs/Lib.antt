@@ -13,6 +13,7 @@ pub mod StepRules
 pub mod Computed
 pub mod BoundedEvents
 pub mod FormedEvents
+pub mod Generations
 pub mod AcceptedParts
 pub mod AllAdded
 pub mod BatchSizes

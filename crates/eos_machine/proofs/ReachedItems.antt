@@ -50,7 +50,7 @@ kept_step P u c w e t h = step_if P c (w.events == 2 ^ 31) _ (counted w.events (
         record {
           kept = record { coordinators = k.coordinators; logs = k.logs; messages = k.messages; count = omega (arith, k.count) };
           few = omega (arith, l);
-          formed = record { coordinators = f.coordinators; messages = f.messages; sessions = f.sessions };
+          formed = record { coordinators = f.coordinators; messages = f.messages; sessions = f.sessions; generations = f.generations };
         }
 
 pub kept_run : (P : List ℕ → Type 0) (c : Config) (w : World) (xs : List (Switches × Event)) → All (λ x. TopicIs P x.1) xs → IsKept P c w → IsKept P c (world_under c w xs)
@@ -90,7 +90,7 @@ any_topic (events.Commit n q v) = tt
 any_topic (events.End n k) = tt
 any_topic (events.Resume n) = tt
 any_topic (events.Fetch n q) = tt
-any_topic events.Members = tt
+any_topic (events.Members g) = tt
 any_topic (events.BrokerRestart t p) = tt
 any_topic events.CoordinatorRestart = tt
 any_topic (events.Deliver n) = tt

@@ -33,4 +33,4 @@ pub record Bounded (n : ℕ) (w : World) : Type 0 where
   pub logs : All (All (IsWithin n)) w.logs
   pub messages : All (IsSent n) w.messages
   pub sessions : All (IsSafe n) w.sessions
-  pub generation : w.generation ≤ n
+  pub generations : All (λ g. g ≤ n) w.generations

@@ -1,12 +1,12 @@
 -- What a message does when it arrives: data and offsets at a broker, ends at the coordinator, end markers at a broker
 -- (KIP-98, "Idempotent Producer Guarantees" and "Data flow"; KIP-890, the end of a transaction raises the epoch; KIP-447,
--- an offset commit carries the group's generation). Switches may break their rules.
+-- an offset commit carries its group's generation). Switches may break their rules.
 use Rattle.std.specs.Prelude.{ℕ, ◌+◌, ◌==◌, nat_lt, false, not, ◌&&◌, ◌||◌, List, [], length, slice_index_or, Option, Some, None, if◌then◌else◌}
 use Rattle.std.specs.List.{filter}
 use Rattle.eos_batch.specs.declared.marker.Kind.{Kind}
 use Rattle.eos_machine.specs.declared.switches.Switches.{Switches}
 use Rattle.eos_machine.specs.LogIndexes.{Config, offsets_index, written_index, listed}
-use Rattle.eos_machine.specs.World.{World, Claim, Item, Output, Offset, Ongoing, Coordinator, Message, coord_at, log_at, with_item, with_coord, with_accepted, written, prepared, finished}
+use Rattle.eos_machine.specs.World.{World, Claim, Item, Output, Offset, Ongoing, Coordinator, Message, coord_at, generation_of, log_at, with_item, with_coord, with_accepted, written, prepared, finished}
 use Rattle.eos_machine.specs.declared.state.Message.TheVariants as messages
 use Rattle.eos_machine.specs.Logs.{producer_at}
 use Rattle.eos_machine.specs.Rules.{is_repeated, is_out_of_order, is_stale, is_marker_fenced, marker_of}
@@ -47,7 +47,7 @@ deliver_output u c w n a e p s x v =
 abbrev pub deliver_offset : Switches → Config → World → ℕ → ℕ → ℕ → ℕ → ℕ → Option ℕ → Answer
 deliver_offset u c w n a e g q v =
     when (slice_index_or w.accepted n false) (w, DuplicateKept) (
-    when (is_stale u g w.generation) (w, StaleGeneration) (
+    when (is_stale u g (generation_of c w a)) (w, StaleGeneration) (
     when (nat_lt e (producer_at w a offsets_index).high) (fenced u w n offsets_index (Offset a e q v w.events)) (
     when (not (is_current (coord_at w a) e)) (fenced u w n offsets_index (Offset a e q v w.events)) (
     when (is_prepare (coord_at w a).status) (w, Busy) (

@@ -5,7 +5,7 @@ use Rattle.eos_machine.specs.declared.config.Config.{Config}
 use Rattle.eos_machine.specs.declared.state.Session.{Session}
 use Rattle.eos_machine.specs.declared.state.Message.{Message}
 use Rattle.eos_machine.specs.declared.state.Message.TheVariants.{Output, Offset, End, Marker}
-use Rattle.eos_machine.specs.LogIndexes.{application_count}
+use Rattle.eos_machine.specs.LogIndexes.{application_count, group_count}
 use Rattle.eos_machine.specs.World.{World}
 
 -- the application and the partition of a message
@@ -23,3 +23,5 @@ pub record IsFormed (c : Config) (w : World) : Type 0 where
   pub coordinators : length w.coordinators ≡ application_count c
   pub messages : All (Names c) w.messages
   pub sessions : All (IsOfOne c) w.sessions
+  -- each group has its generation
+  pub generations : length w.generations ≡ group_count c

@@ -23,6 +23,13 @@ application_count c = if c.chain then c.applications + 1 else c.applications
 abbrev pub is_chained : Config → ℕ → Bool
 is_chained c a = c.chain && a == c.applications
 
+abbrev pub group_count : Config → ℕ
+group_count c = if c.chain then 2 else 1
+
+-- the number of an application's group
+abbrev pub group_of : Config → ℕ → ℕ
+group_of c a = if is_chained c a then 1 else 0
+
 -- `fin` has as many partitions as `out`
 abbrev pub final_count : Config → ℕ
 final_count c = if c.chain then c.outputs else 0

@@ -4,8 +4,8 @@ use Rattle.std.specs.List.{flat_map, range_with_len}
 use Rattle.eos_batch.specs.declared.marker.Kind.TheVariants.{Abort}
 use Rattle.eos_machine.specs.declared.switches.Switches.{Switches}
 use Rattle.eos_machine.specs.Switching.{none}
-use Rattle.eos_machine.specs.LogIndexes.{Config, application_count, txn_index, input_index, is_partition}
-use Rattle.eos_machine.specs.World.{World, Status, Empty, Ongoing, Prepare, Complete, Fed, Coordinator, Message, Event, Reply, fresh, coord_at, log_at, with_item, with_messages, with_sessions, with_generation, written, due_markers, prepared}
+use Rattle.eos_machine.specs.LogIndexes.{Config, application_count, group_count, txn_index, input_index, is_partition}
+use Rattle.eos_machine.specs.World.{World, Status, Empty, Ongoing, Prepare, Complete, Fed, Coordinator, Message, Event, Reply, fresh, coord_at, generation_at, generation_of, log_at, with_item, with_messages, with_sessions, with_generation, written, due_markers, prepared}
 use Rattle.eos_machine.specs.declared.event.Event.TheVariants as events
 use Rattle.eos_machine.specs.Logs.{entries_of, last_state}
 use Rattle.eos_machine.specs.Tests.{is_ongoing, is_prepare}
@@ -23,7 +23,7 @@ feed c w p =
 abbrev pub start_session : Switches → Config → World → ℕ → ℕ → Answer
 start_session u c w a e =
     when (nat_lt last_epoch e) (w, EpochsSpent) (
-    (with_sessions (written u c w a (record { status = Empty; epoch = e; partitions = [] })) (w.sessions ++ new_session c a e w.generation ∷ []), Done (length w.sessions)))
+    (with_sessions (written u c w a (record { status = Empty; epoch = e; partitions = [] })) (w.sessions ++ new_session c a e (generation_of c w a) ∷ []), Done (length w.sessions)))
 
 -- an open transaction is aborted first
 abbrev pub start : Switches → Config → World → ℕ → Answer
@@ -33,7 +33,7 @@ start u c w a =
     when (is_ongoing (coord_at w a).status) (prepared u c w a Abort (coord_at w a).partitions, Busy) (
     start_session u c w a (if (coord_at w a).started then (coord_at w a).epoch + 1 else 0))))
 
--- ---- a transaction is open longer than its time-out (KIP-98, "Expiring Transactions"; KIP-890)
+-- ---- a transaction is open longer than its time-out (`TransactionStateManager.timedOutTransactions` of Kafka's sources; KIP-98; KIP-890)
 
 -- the coordinator ends it as its producer would that gives it up: at the next epoch, so that this producer is fenced
 abbrev pub time_out : Switches → Config → World → ℕ → Answer
@@ -63,6 +63,13 @@ abbrev pub restarted : Config → World → World
 restarted c w =
     with_coordinators (with_messages w (flat_map (queued_again c w) (range_with_len 0 (length w.coordinators)))) (map (reread c w) (range_with_len 0 (length w.coordinators)))
 
+-- ---- the members of a group change (KIP-447): what its older sessions commit is stale, and of no other group
+
+abbrev pub change_members : Config → World → ℕ → Answer
+change_members c w g =
+    when (not (nat_lt g (group_count c))) (w, Unknown) (
+    (with_generation w g (generation_at w g + 1), Done 0))
+
 -- ---- any event, and any list
 
 -- a broker that restarts reads its log again, of which its state is a function
@@ -77,7 +84,7 @@ happens_under u c w (events.Commit n q v) = commit c w n q v
 happens_under u c w (events.End n k) = end_session w n k (slice_get w.sessions n)
 happens_under u c w (events.Resume n) = resume c w n (slice_get w.sessions n)
 happens_under u c w (events.Fetch n q) = fetch c w q (slice_get w.sessions n)
-happens_under u c w events.Members = (with_generation w (w.generation + 1), Done 0)
+happens_under u c w (events.Members g) = change_members c w g
 happens_under u c w (events.BrokerRestart t p) = restart_broker c w t p
 happens_under u c w events.CoordinatorRestart = (restarted c w, Done 0)
 happens_under u c w (events.Deliver n) = deliver u c w n (slice_get w.messages n)

@@ -1,9 +1,9 @@
--- What a session asks: its requests become messages (KIP-98, "Data flow"; KIP-447, the group's generation, which is one for both groups).
+-- What a session asks: its requests become messages (KIP-98, "Data flow"; KIP-447, the generation of its group).
 use Rattle.std.specs.Prelude.{ℕ, ◌+◌, ◌==◌, nat_lt, ℤ, pos, negsuc, Bool, false, not, ◌&&◌, ◌||◌, List, [], ◌∷◌, ◌++◌, length, replicate, slice_get, slice_index_or, slice_set, Option, Some, None}
 use Rattle.std.specs.List.{list_any}
 use Rattle.eos_batch.specs.declared.marker.Kind.{Kind}
 use Rattle.eos_machine.specs.LogIndexes.{Config, offsets_index, is_source}
-use Rattle.eos_machine.specs.World.{World, Claim, Session, Message, coord_at, log_at, with_messages, with_sessions}
+use Rattle.eos_machine.specs.World.{World, Claim, Session, Message, coord_at, generation_of, log_at, with_messages, with_sessions}
 use Rattle.eos_machine.specs.declared.state.Message.TheVariants as messages
 use Rattle.eos_machine.specs.Logs.{has_open_commit, committed_offset}
 use Rattle.eos_machine.specs.Tests.{is_active, is_commit, is_prepare, is_complete}
@@ -88,6 +88,6 @@ abbrev pub fetch : Config → World → ℕ → Option Session → Answer
 fetch c w q None = (w, Unknown)
 fetch c w q (Some s) =
     when (not (is_source c s.application q)) (w, Unknown) (
-    when (not (s.generation == w.generation)) (w, StaleGeneration) (
+    when (not (s.generation == generation_of c w s.application)) (w, StaleGeneration) (
     when (has_open_commit q (log_at w offsets_index)) (w, Busy) (
     (w, Done (committed_offset q (log_at w offsets_index))))))

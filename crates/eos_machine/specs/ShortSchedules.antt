@@ -86,7 +86,7 @@ pub record TimesOut : Type 0 where
 abbrev pub fetching : List Event
 fetching =
     events.Feed 0 ∷ events.Start 0 ∷ events.Fetch 0 0 ∷ events.Commit 0 0 (Some (negsuc 0)) ∷ events.Commit 0 0 (Some (pos 1)) ∷ events.End 0 Commit ∷ events.Deliver 0 ∷ events.Deliver 0 ∷ events.Fetch 0 0
-    ∷ events.End 0 Commit ∷ events.Deliver 1 ∷ events.Deliver 2 ∷ events.Fetch 0 0 ∷ events.Members ∷ events.Fetch 0 0 ∷ []
+    ∷ events.End 0 Commit ∷ events.Deliver 1 ∷ events.Deliver 2 ∷ events.Fetch 0 0 ∷ events.Members 0 ∷ events.Fetch 0 0 ∷ []
 
 pub record Fetches : Type 0 where
   pub replies : Answers pair fetching (Done 0 ∷ Done 0 ∷ Done 0 ∷ Unknown ∷ Done 0 ∷ WrongState ∷ Done 0 ∷ DuplicateKept ∷ Busy ∷ Done 1 ∷ Done 2 ∷ Done 1 ∷ Done 1 ∷ Done 0 ∷ StaleGeneration ∷ [])
@@ -134,3 +134,18 @@ pub record Chains : Type 0 where
   pub output : log_at (after chained chaining) 6 ≡ Output 0 0 0 claim 1 2 ∷ Marker 0 1 Commit 5 ∷ []
   pub final : log_at (after chained chaining) 2 ≡ Output 2 0 0 next_claim 13 15 ∷ Marker 2 1 Commit 19 ∷ []
   pub offsets : log_at (after chained chaining) 0 ≡ Offset 2 0 2 (Some 1) 16 ∷ Marker 2 1 Commit 20 ∷ []
+
+-- the members of one group change: its offset is stale, and what the other commits stands
+abbrev pub rebalancing : List Event
+rebalancing =
+    events.Start 0 ∷ events.Start 2 ∷ events.Commit 0 0 (Some (pos 1)) ∷ events.Commit 1 2 (Some (pos 1)) ∷ events.Members 0 ∷ events.Deliver 0 ∷ events.Deliver 1
+    ∷ events.Fetch 0 0 ∷ events.End 1 Commit ∷ events.Deliver 2 ∷ events.Deliver 3 ∷ events.Fetch 1 2 ∷ events.Start 1 ∷ events.Fetch 2 0 ∷ events.Members 1 ∷ events.Fetch 1 2 ∷ events.Fetch 2 0 ∷ events.Members 2 ∷ []
+
+pub record Rebalances : Type 0 where
+  pub replies : Answers chained rebalancing
+      (Done 0 ∷ Done 1 ∷ Done 0 ∷ Done 1 ∷ Done 0 ∷ StaleGeneration ∷ Done 0
+      ∷ StaleGeneration ∷ Done 2 ∷ Done 3 ∷ Done 1 ∷ Done 1 ∷ Done 2 ∷ Done 0 ∷ Done 0 ∷ StaleGeneration ∷ Done 0 ∷ Unknown ∷ [])
+  pub offsets : log_at (after chained rebalancing) 0 ≡ Offset 2 0 2 (Some 1) 6 ∷ Marker 2 1 Commit 10 ∷ []
+  pub generations : (after chained rebalancing).generations ≡ 1 ∷ 1 ∷ []
+  -- where there is one group, no other one has members
+  pub single : Answers single (events.Members 1 ∷ events.Members 0 ∷ []) (Unknown ∷ Done 0 ∷ [])

@@ -42,7 +42,7 @@ both =
 
 -- the members of the group change before an offset comes
 abbrev pub changed : List Event
-changed = events.Start 0 ∷ events.Commit 0 0 (Some (pos 1)) ∷ events.Members ∷ events.Deliver 0 ∷ []
+changed = events.Start 0 ∷ events.Commit 0 0 (Some (pos 1)) ∷ events.Members 0 ∷ events.Deliver 0 ∷ []
 
 pub record Breaks : Type 0 where
   pub duplicates : AnswersWith KeepDuplicates twice (Done 0 ∷ Done 0 ∷ Done 0 ∷ Done 1 ∷ [])

@@ -3,7 +3,7 @@ use Rattle.std.specs.Prelude.{ℕ, ◌+◌, Bool, true, false, not, List, [], �
 use Rattle.std.specs.List.{filter}
 use Rattle.eos_batch.specs.declared.marker.Kind.{Kind}
 use Rattle.eos_machine.specs.declared.switches.Switches.{Switches}
-use Rattle.eos_machine.specs.LogIndexes.{Config, application_count, txn_index, log_count, is_odd_output}
+use Rattle.eos_machine.specs.LogIndexes.{Config, application_count, group_count, group_of, txn_index, log_count, is_odd_output}
 pub use Rattle.eos_machine.specs.declared.item.Claim.{Claim}
 pub use Rattle.eos_machine.specs.declared.item.Status.{Status}
 pub use Rattle.eos_machine.specs.declared.item.Status.TheVariants.{Empty, Ongoing, Prepare, Complete}
@@ -27,8 +27,8 @@ pub record World : Type 0 where
   -- for each message, whether a broker has accepted it
   pub accepted : List Bool
   pub sessions : List Session
-  -- how often the members of both groups have changed
-  pub generation : ℕ
+  -- by group: how often its members have changed
+  pub generations : List ℕ
   -- how many events were taken
   pub events : ℕ
 
@@ -43,7 +43,7 @@ opening c = record {
   messages = [];
   accepted = [];
   sessions = [];
-  generation = 0;
+  generations = replicate (group_count c) 0;
   events = 0;
 }
 
@@ -52,6 +52,13 @@ log_at w p = slice_index_or w.logs p []
 
 abbrev pub coord_at : World → ℕ → Coordinator
 coord_at w a = slice_index_or w.coordinators a fresh
+
+abbrev pub generation_at : World → ℕ → ℕ
+generation_at w g = slice_index_or w.generations g 0
+
+-- that of an application's group
+abbrev pub generation_of : Config → World → ℕ → ℕ
+generation_of c w a = generation_at w (group_of c a)
 
 -- ---- changes
 
@@ -71,8 +78,8 @@ with_sessions w ss = record w { sessions = ss }
 abbrev pub with_accepted : World → ℕ → World
 with_accepted w n = record w { accepted = slice_set w.accepted n true }
 
-abbrev pub with_generation : World → ℕ → World
-with_generation w n = record w { generation = n }
+abbrev pub with_generation : World → ℕ → ℕ → World
+with_generation w g n = record w { generations = slice_set w.generations g n }
 
 -- the state that a record leaves; the end markers of all its partitions are awaited
 abbrev pub state_of : Entry → Coordinator

@@ -1,7 +1,7 @@
 //! How large a cluster is.
 
 ghost use Rattle.std.specs.Prelude.{◌≡◌, ◌≤◌};
-ghost use Rattle.eos_machine.specs.LogIndexes.{IsConfig, application_count, final_count, is_chained};
+ghost use Rattle.eos_machine.specs.LogIndexes.{IsConfig, application_count, final_count, group_count, group_of, is_chained};
 
 /// The sizes of a simulated cluster. Its partitions are, by place in its list of logs: the one of `__consumer_offsets`,
 /// those of `__transaction_state`, those of `fin` where there is a second group, those of `in`, those of `out`.
@@ -51,5 +51,19 @@ impl Config {
         ensures { result ≡ is_chained self application }
     {
         self.chain && application == self.applications
+    }
+
+    /// How many groups there are.
+    pub fn group_count(self) -> usize
+        ensures { result ≡ group_count self }
+    {
+        if self.chain { 2 } else { 1 }
+    }
+
+    /// The number of an application's group.
+    pub fn group_of(self, application: usize) -> usize
+        ensures { result ≡ group_of self application }
+    {
+        if self.is_chained(application) { 1 } else { 0 }
     }
 }

@@ -44,8 +44,10 @@ pub enum Event {
         session: usize,
         source: usize,
     },
-    /// The members of both groups change.
-    Members,
+    /// The members of a group change (KIP-447): 0 is the group that reads `in`, 1 the second one.
+    Members {
+        group: usize,
+    },
     /// The broker of a partition restarts.
     BrokerRestart {
         topic: Bytes,
@@ -57,8 +59,8 @@ pub enum Event {
     Deliver {
         message: u64,
     },
-    /// The transaction of an application has been open longer than its time-out: the coordinator aborts it (KIP-98,
-    /// "Expiring Transactions").
+    /// The transaction of an application has been open longer than its time-out: the coordinator aborts it
+    /// (`TransactionStateManager.timedOutTransactions` of Kafka's sources; KIP-98; KIP-890).
     TimeOut {
         application: usize,
     },

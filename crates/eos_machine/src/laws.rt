@@ -2,16 +2,16 @@
 //! in any order, with any message lost or repeated and any member restarted. Its functions do nothing; their contracts
 //! are the laws.
 
-ghost use Rattle.std.specs.Prelude.{◌≡◌, List, ◌≤◌, ◌^◌};
+ghost use Rattle.std.specs.Prelude.{◌≡◌, ◌≢◌, ◌+◌, ◌<◌, ℕ, List, ◌≤◌, ◌^◌};
 ghost use Rattle.eos_machine.specs.Bounds.{Bounded};
-ghost use Rattle.eos_machine.specs.LogIndexes.{Config, IsConfig};
-ghost use Rattle.eos_machine.specs.World.{Event, opening};
+ghost use Rattle.eos_machine.specs.LogIndexes.{Config, IsConfig, group_count};
+ghost use Rattle.eos_machine.specs.World.{Event, World, generation_at, opening};
 ghost use Rattle.eos_machine.specs.declared.switches.Switches.{Switches};
 ghost use Rattle.eos_machine.specs.Switching.{none};
 ghost use Rattle.eos_machine.specs.Formed.{IsFormed};
-ghost use Rattle.eos_machine.specs.Machine.{world_after, world_under};
+ghost use Rattle.eos_machine.specs.Machine.{change_members, world_after, world_under};
 ghost use Rattle.eos_machine.specs.Rest.{KeepsSequences, NeighboursFit, StepsFit, IsAtRest, AllAtomic};
-ghost use Rattle.eos_machine.specs.ShortSchedules.{Commits, Restarts, Fences, TimesOut, Fetches, Omits, Lists, Chains};
+ghost use Rattle.eos_machine.specs.ShortSchedules.{Commits, Restarts, Fences, TimesOut, Fetches, Omits, Lists, Chains, Rebalances};
 ghost use Rattle.eos_machine.specs.SwitchedSchedules.{Breaks, all_under};
 
 /// At any time no fault of a sequence or of an epoch stands at any batch: none of the kinds FirstSequence, Sequence,
@@ -54,6 +54,13 @@ pub fn neighbours_fit_at_rest()
     ensures { (c : Config) (es : List Event) → IsConfig c → IsAtRest (world_after c (opening c) es) → NeighboursFit c (world_after c (opening c) es) }
 {}
 
+/// When the members of a group change, at any time, its generation rises by one, and each other group keeps its own.
+pub fn one_group_changes()
+    ensures raised { (c : Config) (xs : List (Switches × Event)) (g : ℕ) → g < group_count c
+        → generation_at (change_members c (world_under c (opening c) xs) g).0 g ≡ generation_at (world_under c (opening c) xs) g + 1 }
+    ensures others { (c : Config) (w : World) (g h : ℕ) → h ≢ g → generation_at (change_members c w g).0 h ≡ generation_at w h }
+{}
+
 /// The machine moves: short schedules with their replies and logs, computed from the definitions.
 pub fn schedules()
     ensures commits { Commits }
@@ -64,6 +71,7 @@ pub fn schedules()
     ensures omits { Omits }
     ensures lists { Lists }
     ensures chains { Chains }
+    ensures rebalances { Rebalances }
 {}
 
 /// Each switch breaks its rule: a short schedule for each, with its replies and logs, computed from the definitions.

@@ -32,7 +32,7 @@ pub struct Producer {
 pub struct Session {
     pub application: usize,
     pub epoch: u16,
-    /// The generation of the groups when the session began.
+    /// The generation of its group when the session began.
     pub generation: u64,
     /// How the session asked its transaction to end, where it did: it isn't active then.
     pub ending: Option<Kind>,

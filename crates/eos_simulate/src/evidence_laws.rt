@@ -32,7 +32,7 @@ pub fn sends_bytes(event: &Event)
         Event::End { .. } => {}
         Event::Resume { .. } => {}
         Event::Fetch { .. } => {}
-        Event::Members => {}
+        Event::Members { .. } => {}
         Event::BrokerRestart { .. } => {}
         Event::CoordinatorRestart => {}
         Event::Deliver { .. } => {}

@@ -147,7 +147,7 @@ fn push_event(
         | Event::End { .. }
         | Event::Resume { .. }
         | Event::Fetch { .. }
-        | Event::Members
+        | Event::Members { .. }
         | Event::BrokerRestart { .. }
         | Event::CoordinatorRestart
         | Event::TimeOut { .. } => Ok(()),

@@ -119,7 +119,7 @@ impl Names {
             },
             Event::Feed { .. }
             | Event::Start { .. }
-            | Event::Members
+            | Event::Members { .. }
             | Event::BrokerRestart { .. }
             | Event::CoordinatorRestart
             | Event::TimeOut { .. } => Ok(Some(event.clone()?)),
@@ -152,7 +152,7 @@ impl Names {
             })),
             Event::Feed { .. }
             | Event::Start { .. }
-            | Event::Members
+            | Event::Members { .. }
             | Event::BrokerRestart { .. }
             | Event::CoordinatorRestart
             | Event::Deliver { .. }

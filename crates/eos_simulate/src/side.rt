@@ -93,7 +93,7 @@ impl Side {
             Event::Feed { .. }
             | Event::Resume { .. }
             | Event::Fetch { .. }
-            | Event::Members
+            | Event::Members { .. }
             | Event::BrokerRestart { .. } => {}
             Event::CoordinatorRestart | Event::Deliver { .. } | Event::TimeOut { .. } => {
                 self.count_markers();

@@ -85,6 +85,14 @@ deliver_in d = option_map (λ message. Deliver message) (count_in (codes "messag
 abbrev pub time_out_in : Data → Option Event
 time_out_in d = option_map (λ application. TimeOut application) (count_in (codes "application") d)
 
+-- the first group's, where none is named
+abbrev pub group_from : Option Data → Option ℕ
+group_from None = Some 0
+group_from (Some d) = option_and_then as_u64 (as_number d)
+
+abbrev pub members_in : Data → Option Event
+members_in d = option_map (λ group. Members group) (group_from (get (codes "group") d))
+
 abbrev pub commit_in : ℕ → Data → Option Event
 commit_in session d = option_and_then (λ source. option_map (λ offset. Commit session source offset) (offset_within d)) (count_in (codes "source") d)
 
@@ -110,7 +118,7 @@ plain_event word d =
     if bytes_eq word (codes "feed") then feed_in d
     else (if bytes_eq word (codes "start") then start_in d
     else (if bytes_eq word (codes "deliver") then deliver_in d
-    else (if bytes_eq word (codes "members") then Some Members
+    else (if bytes_eq word (codes "members") then members_in d
     else (if bytes_eq word (codes "coordinator-restart") then Some CoordinatorRestart
     else (if bytes_eq word (codes "time-out") then time_out_in d
     else event_of_session word d)))))

@@ -1,4 +1,4 @@
-use Rattle.eos_machine.proofs.Computed.{commits, restarts, fences, times_out, fetches, omits, lists, chains}
+use Rattle.eos_machine.proofs.Computed.{commits, restarts, fences, times_out, fetches, omits, lists, chains, rebalances}
 use Rattle.eos_machine.proofs.laws.schedules.Goals as goal
 
 pub returns-clause-commits : goal.returns-clause-commits
@@ -24,3 +24,6 @@ returns-clause-lists c = lists
 
 pub returns-clause-chains : goal.returns-clause-chains
 returns-clause-chains c = chains
+
+pub returns-clause-rebalances : goal.returns-clause-rebalances
+returns-clause-rebalances c = rebalances
