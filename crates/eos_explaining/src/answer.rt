@@ -81,7 +81,7 @@ fn noted_lines(alloc: Global, evidence: &Evidence, judged: &Judged) -> Result<St
 }
 
 /// What was found in the evidence that was judged, with the faults that are picked. The list of all faults is dropped as
-/// soon as they are counted.
+/// soon as they are counted; that of outputs has no names.
 pub(crate) fn found_in(
     alloc: Global,
     evidence: &Evidence,

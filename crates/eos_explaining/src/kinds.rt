@@ -6,12 +6,16 @@ ghost use Rattle.std.specs.Ordering.{nat_cmp, is_eq};
 ghost use Rattle.eos_text.specs.Adding.{Adds};
 ghost use Rattle.eos_verdict.specs.Counts.{counts_line};
 ghost use Rattle.eos_verdict.specs.VerdictNames.{number_of};
+ghost use Rattle.eos_verdict.specs.declared.verdict.Fault.TheVariants.{Lineage};
 ghost use Rattle.eos_verdict.specs.declared.verdict.Verdict.{Verdict as Named};
 ghost use Rattle.eos_verdict.specs.declared.verdict.Verdict.TheVariants.{No};
+ghost use Rattle.eos_source_check.specs.FaultLists.{faults_in};
 ghost use Rattle.eos_explaining.specs.steps.Kinds.{kind_line, kind_at, counts_text};
 ghost use Rattle.eos_explaining.specs.steps.Counting.{HasKind, AreKinds, IsPicked};
 
 use eos_check::{Fault, Verdict};
+use eos_faults::OutputFaults;
+use eos_source_check::AllFaults;
 use eos_text::{push_text, push_value};
 use std::alloc::{AllocError, Global};
 use std::collections::BTreeMap;
@@ -122,8 +126,7 @@ impl Picked {
     }
 }
 
-/// Counts these faults, of which those are held that are picked, each as the verdict that names it.
-pub(crate) fn picked_of(alloc: Global, faults: Vec<Fault>, pick: Pick) -> Result<Picked, AllocError>
+fn picked_in_list(alloc: Global, faults: Vec<Fault>, pick: Pick) -> Result<Picked, AllocError>
     ensures { IfOk result (IsPicked (map No faults.items) pick.from pick.most) }
 {
     let mut all = Picked {
@@ -134,6 +137,39 @@ pub(crate) fn picked_of(alloc: Global, faults: Vec<Fault>, pick: Pick) -> Result
         all.take(fault, pick)?;
     }
     Ok(all)
+}
+
+/// Of these one at a time has names of its own, and those that are held.
+fn picked_in_lent(
+    alloc: Global,
+    faults: &OutputFaults<'_>,
+    pick: Pick,
+) -> Result<Picked, AllocError>
+    ensures { IfOk result (IsPicked (map No (map Lineage faults.now)) pick.from pick.most) }
+{
+    let mut all = Picked {
+        counts: KindCounts::new(alloc),
+        told: Vec::new(alloc),
+    };
+    for at in 0..faults.len() {
+        let fault = faults.fault(alloc, at)?;
+        all.take(Fault::Lineage(fault), pick)?;
+    }
+    Ok(all)
+}
+
+/// Counts these faults, of which those are held that are picked, each as the verdict that names it.
+pub(crate) fn picked_of(
+    alloc: Global,
+    faults: AllFaults<'_>,
+    pick: Pick,
+) -> Result<Picked, AllocError>
+    ensures { IfOk result (IsPicked (map No (faults_in faults.entry)) pick.from pick.most) }
+{
+    match faults {
+        AllFaults::Listed(list) => picked_in_list(alloc, list, pick),
+        AllFaults::OfOutputs(lent) => picked_in_lent(alloc, &lent, pick),
+    }
 }
 
 // ---- their line

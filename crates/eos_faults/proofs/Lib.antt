@@ -11,6 +11,7 @@ pub mod GatheredWhole
 pub mod TableSteps
 pub mod LookedUp
 pub mod WholeOutputs
+pub mod LentOutputs
 pub mod PushedOnto
 pub mod AllTaken
 pub mod PlacedBatches

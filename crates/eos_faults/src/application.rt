@@ -5,16 +5,15 @@ ghost use Rattle.eos_claims.specs.Outputs.{Application, ReadsSources};
 ghost use Rattle.eos_claims.specs.Candidates.{AreApart};
 ghost use Rattle.eos_commits.specs.Plain.{plain_commit};
 ghost use Rattle.eos_faults.specs.steps.OutputFaultsGathered.{AreOutputFaults};
-ghost use Rattle.eos_faults.specs.steps.Plain.{claim_at, place_at};
+ghost use Rattle.eos_faults.specs.steps.Plain.{claim_at, fault_of, place_at};
 ghost use Rattle.eos_faults.specs.steps.Tables.{AreTables};
 
 use crate::commits::{offsets_of, reached_by};
 use crate::firsts::{firsts_of, places_of};
-use crate::lent::{LentPlace, VisibleClaim};
+use crate::lent::{LentFault, LentPlace, VisibleClaim};
 use crate::shown_by_claims::found;
 use crate::tables::Tables;
 use eos_base::{Sorted, distinct_in_order};
-use eos_claims::OutputFault;
 use eos_commits::{CommitRef, TopicSet};
 use std::alloc::{AllocError, Global};
 
@@ -51,9 +50,9 @@ pub(crate) fn output_faults<'a>(
     inputs: Vec<LentPlace<'a>>,
     commits: &[CommitRef<'a>],
     claims: &[VisibleClaim<'a>],
-) -> Result<Vec<OutputFault>, AllocError>
+) -> Result<Vec<LentFault<'a>>, AllocError>
     ensures { (a : Application) → ReadsSources a → AreApart a → IsPermutation a.sources sources.entry → map place_at inputs.entry.items ≡ a.inputs → map plain_commit commits.now ≡ a.commits
-        → map claim_at claims.now ≡ a.claims → IfOk result (λ faults. AreOutputFaults a faults.items) }
+        → map claim_at claims.now ≡ a.claims → IfOk result (λ faults. AreOutputFaults a (map fault_of faults.items)) }
 {
     let tables = tables_of(alloc, sources, inputs, commits, claims)?;
     let faults = found(alloc, &tables, claims)?;

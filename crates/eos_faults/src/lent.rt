@@ -1,4 +1,6 @@
-//! Places and claims whose names are lent from the logs.
+//! Places, claims and faults whose names are lent from the logs.
+
+use eos_claims::OutputKind;
 
 /// A partition's name. Names are ordered by the topic's bytes, then the number.
 #[derive(Clone, Copy, PartialEq, Eq, PartialOrd, Ord)]
@@ -24,4 +26,13 @@ pub(crate) struct VisibleClaim<'a> {
     pub at: LentPlace<'a>,
     /// The producer id and epoch of its transaction, if it is of one.
     pub writer: Option<(i64, i16)>,
+}
+
+/// A fault of the outputs, with the fields of an `OutputFault` and in their order.
+#[derive(Clone, Copy, PartialEq, Eq, PartialOrd, Ord)]
+pub(crate) struct LentFault<'a> {
+    pub source: LentPlace<'a>,
+    pub output: u32,
+    pub kind: OutputKind,
+    pub at: Option<LentPlace<'a>>,
 }

@@ -17,6 +17,7 @@ mod homes;
 pub mod laws;
 mod lent;
 mod log_faults;
+mod outputs;
 mod reading;
 mod segments;
 mod shown;
@@ -27,6 +28,7 @@ mod stops;
 mod tables;
 mod walk;
 
-pub use every::all_output_faults;
+pub use every::{all_output_faults, lent_output_faults};
 pub use faults::all_record_faults;
 pub use log_faults::faults_of_partition;
+pub use outputs::OutputFaults;

@@ -4,79 +4,54 @@ ghost use Rattle.std.specs.Prelude.{◌≡◌, ◌++◌, map, flat_map, IfOk, On
 ghost use Rattle.eos_claims.specs.Outputs.{Application};
 ghost use Rattle.eos_claims.specs.Candidates.{counted, fault_at, is_out_of_range as is_out, when};
 ghost use Rattle.eos_faults.specs.steps.OutputFaultsGathered.{placed_at, numbered_at, shown_at, missing_at, lacking, gathered_by};
-ghost use Rattle.eos_faults.specs.steps.Plain.{claim_at, place_at};
+ghost use Rattle.eos_faults.specs.steps.Plain.{claim_at, fault_of, place_at};
 ghost use Rattle.eos_faults.specs.steps.Tables.{AreTables};
 
-use crate::lent::{LentPlace, VisibleClaim};
+use crate::lent::{LentFault, LentPlace, VisibleClaim};
 use crate::tables::{
     Tables, disagrees, first_absent, is_committed, is_input, is_passed, is_repeated, is_source,
 };
-use bytes::Bytes;
-use eos_base::PartitionName;
-use eos_claims::{OutputFault, OutputKind, Place};
+use eos_claims::OutputKind;
 use std::alloc::{AllocError, Global};
 
-/// The place with a name of its own.
-fn own_place(alloc: Global, place: &LentPlace<'_>) -> Result<Place, AllocError>
-    ensures { IfOk result (λ p. p ≡ place_at place.now) }
-{
-    Ok(Place {
-        partition: PartitionName {
-            topic: Bytes::copy_from_slice(alloc, place.partition.topic)?,
-            partition: place.partition.partition,
-        },
-        offset: place.offset,
-    })
-}
-
 /// Puts the claim's fault of this kind at the end, where it stands.
-fn push_when(
-    alloc: Global,
-    faults: &mut Vec<OutputFault>,
+fn push_when<'a>(
+    faults: &mut Vec<LentFault<'a>>,
     stands: bool,
     kind: OutputKind,
-    claim: &VisibleClaim<'_>,
+    claim: &VisibleClaim<'a>,
 ) -> Result<(), AllocError>
-    ensures { OnOk result (faults.new.items ≡ faults.old.items ++ when stands (fault_at kind (counted (claim_at claim.now)))) }
+    ensures { OnOk result (map fault_of faults.new.items ≡ map fault_of faults.old.items ++ when stands (fault_at kind (counted (claim_at claim.now)))) }
 {
     if !stands {
         return Ok(());
     }
-    let source = own_place(alloc, &claim.source)?;
-    let at = own_place(alloc, &claim.at)?;
-    faults.push(OutputFault {
-        source,
+    faults.push(LentFault {
+        source: claim.source,
         output: claim.output,
         kind,
-        at: Some(at),
+        at: Some(claim.at),
     })?;
     Ok(())
 }
 
 /// What a claim shows by the place that it names.
 fn push_placed<'a>(
-    alloc: Global,
-    faults: &mut Vec<OutputFault>,
+    faults: &mut Vec<LentFault<'a>>,
     tables: &Tables<'a>,
     claim: &VisibleClaim<'a>,
 ) -> Result<(), AllocError>
-    ensures { (a : Application) → AreTables a tables.now → OnOk result (faults.new.items ≡ faults.old.items ++ placed_at a (claim_at claim.now)) }
+    ensures { (a : Application) → AreTables a tables.now → OnOk result (map fault_of faults.new.items ≡ map fault_of faults.old.items ++ placed_at a (claim_at claim.now)) }
 {
     let source = is_source(tables, &claim.source);
     let input = is_input(tables, &claim.source);
     let committed = is_committed(tables, &claim.source);
     let passed = is_passed(tables, claim);
-    push_when(alloc, faults, !source, OutputKind::ForeignSource, claim)?;
-    push_when(
-        alloc,
-        faults,
-        source && !input,
-        OutputKind::NoSuchInput,
-        claim,
-    )?;
-    push_when(alloc, faults, input && !committed, OutputKind::Early, claim)?;
+    push_when(faults, !source, OutputKind::ForeignSource, claim)?;
+    push_when(faults, source && !input, OutputKind::NoSuchInput, claim)?;
+    push_when(faults, input && !committed, OutputKind::Early, claim)?;
     let other = input && (committed && !passed);
-    push_when(alloc, faults, other, OutputKind::OtherTransaction, claim)?;
+    push_when(faults, other, OutputKind::OtherTransaction, claim)?;
     Ok(())
 }
 
@@ -93,50 +68,46 @@ fn is_out_of_range(claim: &VisibleClaim<'_>) -> bool
 
 /// What a claim shows by its number and its count.
 fn push_numbered<'a>(
-    alloc: Global,
-    faults: &mut Vec<OutputFault>,
+    faults: &mut Vec<LentFault<'a>>,
     tables: &Tables<'a>,
     claim: &VisibleClaim<'a>,
 ) -> Result<(), AllocError>
-    ensures { (a : Application) → AreTables a tables.now → OnOk result (faults.new.items ≡ faults.old.items ++ numbered_at a (claim_at claim.now)) }
+    ensures { (a : Application) → AreTables a tables.now → OnOk result (map fault_of faults.new.items ≡ map fault_of faults.old.items ++ numbered_at a (claim_at claim.now)) }
 {
     let out = is_out_of_range(claim);
     let disagrees = disagrees(tables, claim);
     let repeated = is_repeated(tables, claim);
-    push_when(alloc, faults, out, OutputKind::NumberRange, claim)?;
-    push_when(alloc, faults, disagrees, OutputKind::CountDisagrees, claim)?;
-    push_when(alloc, faults, repeated, OutputKind::Repeated, claim)?;
+    push_when(faults, out, OutputKind::NumberRange, claim)?;
+    push_when(faults, disagrees, OutputKind::CountDisagrees, claim)?;
+    push_when(faults, repeated, OutputKind::Repeated, claim)?;
     Ok(())
 }
 
 fn push_claim<'a>(
-    alloc: Global,
-    faults: &mut Vec<OutputFault>,
+    faults: &mut Vec<LentFault<'a>>,
     tables: &Tables<'a>,
     claim: &VisibleClaim<'a>,
 ) -> Result<(), AllocError>
-    ensures { (a : Application) → AreTables a tables.now → OnOk result (faults.new.items ≡ faults.old.items ++ shown_at a (claim_at claim.now)) }
+    ensures { (a : Application) → AreTables a tables.now → OnOk result (map fault_of faults.new.items ≡ map fault_of faults.old.items ++ shown_at a (claim_at claim.now)) }
 {
-    push_placed(alloc, faults, tables, claim)?;
-    push_numbered(alloc, faults, tables, claim)?;
+    push_placed(faults, tables, claim)?;
+    push_numbered(faults, tables, claim)?;
     Ok(())
 }
 
 /// Puts an output that an input lacks at the end, if there is one.
-fn push_missing(
-    alloc: Global,
-    faults: &mut Vec<OutputFault>,
-    input: &LentPlace<'_>,
+fn push_missing<'a>(
+    faults: &mut Vec<LentFault<'a>>,
+    input: &LentPlace<'a>,
     output: Option<u32>,
 ) -> Result<(), AllocError>
-    ensures { OnOk result (faults.new.items ≡ faults.old.items ++ missing_at (place_at input.now) output) }
+    ensures { OnOk result (map fault_of faults.new.items ≡ map fault_of faults.old.items ++ missing_at (place_at input.now) output) }
 {
     let Some(output) = output else {
         return Ok(());
     };
-    let source = own_place(alloc, input)?;
-    faults.push(OutputFault {
-        source,
+    faults.push(LentFault {
+        source: *input,
         output,
         kind: OutputKind::Missing,
         at: None,
@@ -145,43 +116,40 @@ fn push_missing(
 }
 
 fn push_input<'a>(
-    alloc: Global,
-    faults: &mut Vec<OutputFault>,
+    faults: &mut Vec<LentFault<'a>>,
     tables: &Tables<'a>,
     input: &LentPlace<'a>,
 ) -> Result<(), AllocError>
-    ensures { (a : Application) → AreTables a tables.now → OnOk result (faults.new.items ≡ faults.old.items ++ lacking a (place_at input.now)) }
+    ensures { (a : Application) → AreTables a tables.now → OnOk result (map fault_of faults.new.items ≡ map fault_of faults.old.items ++ lacking a (place_at input.now)) }
 {
     if is_committed(tables, input) {
-        push_missing(alloc, faults, input, first_absent(tables, input))?;
+        push_missing(faults, input, first_absent(tables, input))?;
     }
     Ok(())
 }
 
 fn push_claims<'a>(
-    alloc: Global,
-    faults: &mut Vec<OutputFault>,
+    faults: &mut Vec<LentFault<'a>>,
     tables: &Tables<'a>,
     claims: &[VisibleClaim<'a>],
 ) -> Result<(), AllocError>
-    ensures { (a : Application) → AreTables a tables.now → OnOk result (faults.new.items ≡ faults.old.items ++ flat_map (shown_at a) (map claim_at claims.now)) }
+    ensures { (a : Application) → AreTables a tables.now → OnOk result (map fault_of faults.new.items ≡ map fault_of faults.old.items ++ flat_map (shown_at a) (map claim_at claims.now)) }
 {
     for claim in claims {
-        push_claim(alloc, faults, tables, claim)?;
+        push_claim(faults, tables, claim)?;
     }
     Ok(())
 }
 
 fn push_inputs<'a>(
-    alloc: Global,
-    faults: &mut Vec<OutputFault>,
+    faults: &mut Vec<LentFault<'a>>,
     tables: &Tables<'a>,
     inputs: &[LentPlace<'a>],
 ) -> Result<(), AllocError>
-    ensures { (a : Application) → AreTables a tables.now → OnOk result (faults.new.items ≡ faults.old.items ++ flat_map (lacking a) (map place_at inputs.now)) }
+    ensures { (a : Application) → AreTables a tables.now → OnOk result (map fault_of faults.new.items ≡ map fault_of faults.old.items ++ flat_map (lacking a) (map place_at inputs.now)) }
 {
     for input in inputs {
-        push_input(alloc, faults, tables, input)?;
+        push_input(faults, tables, input)?;
     }
     Ok(())
 }
@@ -191,11 +159,11 @@ pub(crate) fn found<'a>(
     alloc: Global,
     tables: &Tables<'a>,
     claims: &[VisibleClaim<'a>],
-) -> Result<Vec<OutputFault>, AllocError>
-    ensures { (a : Application) → AreTables a tables.now → map claim_at claims.now ≡ a.claims → IfOk result (λ faults. faults.items ≡ gathered_by a (map place_at tables.now.inputs)) }
+) -> Result<Vec<LentFault<'a>>, AllocError>
+    ensures { (a : Application) → AreTables a tables.now → map claim_at claims.now ≡ a.claims → IfOk result (λ faults. map fault_of faults.items ≡ gathered_by a (map place_at tables.now.inputs)) }
 {
     let mut faults = Vec::new(alloc);
-    push_claims(alloc, &mut faults, tables, claims)?;
-    push_inputs(alloc, &mut faults, tables, tables.inputs.as_slice())?;
+    push_claims(&mut faults, tables, claims)?;
+    push_inputs(&mut faults, tables, tables.inputs.as_slice())?;
     Ok(faults)
 }

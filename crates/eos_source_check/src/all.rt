@@ -3,9 +3,11 @@
 ghost use Rattle.std.specs.Prelude.{◌≡◌, IfOk, map};
 ghost use Rattle.eos_verdict.specs.declared.verdict.Fault.TheVariants.{Partition as InPartition};
 ghost use Rattle.eos_source_check.specs.AllFaults.{AreAllFaults};
+ghost use Rattle.eos_source_check.specs.FaultLists.{faults_in};
 ghost use Rattle.eos_source_check.specs.Judged.{AreKeptOf};
 
-use crate::later::later_faults;
+use crate::later::lent_faults;
+use crate::lists::AllFaults;
 use crate::partitions::all_partition_faults;
 use eos_check::Fault;
 use eos_evidence::Evidence;
@@ -32,19 +34,23 @@ pub fn of_partitions(alloc: Global, faults: Vec<PartitionFault>) -> Result<Vec<F
 /// of one phase. None where the verdict is yes; else the first is the verdict's (`laws::first_fault`).
 ///
 /// Segments are read again only where a partition's log has a fault. The work is that of the check by one thread, and a sort of
-/// what is found; the memory is that of the check, and of the faults.
+/// what is found; the memory is that of the check, and of the faults, those of outputs without their names.
 ///
 /// # Errors
 /// Only want of memory.
-pub fn all_faults(alloc: Global, evidence: &Evidence, logs: &Logs) -> Result<Vec<Fault>, AllocError>
-    ensures { (kept : AreKeptOf evidence.now logs.now) → IfOk result (λ faults. AreAllFaults evidence.now kept.whole kept.of faults.items) }
+pub fn all_faults<'a>(
+    alloc: Global,
+    evidence: &'a Evidence,
+    logs: &'a Logs,
+) -> Result<AllFaults<'a>, AllocError>
+    ensures { (kept : AreKeptOf evidence.now logs.now) → IfOk result (λ faults. AreAllFaults evidence.now kept.whole kept.of (faults_in faults)) }
 {
     let spec = evidence.spec();
     if let Some(_fault) = logs.first_fault() {
         let faults = all_partition_faults(alloc, evidence)?;
         let list = of_partitions(alloc, faults)?;
-        return Ok(list);
+        return Ok(AllFaults::Listed(list));
     }
-    let list = later_faults(alloc, spec, logs)?;
-    Ok(list)
+    let later = lent_faults(alloc, spec, logs)?;
+    Ok(later)
 }

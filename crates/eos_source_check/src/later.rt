@@ -6,13 +6,14 @@ ghost use Rattle.eos_commits.specs.Faults.{AreInOrder};
 ghost use Rattle.eos_verdict.specs.declared.lineage_fault.LineageFault.TheVariants.{Record};
 ghost use Rattle.eos_verdict.specs.declared.verdict.Fault.TheVariants.{Log, Match, Lineage};
 ghost use Rattle.eos_check.specs.Verdicts.{StandsInLog, StandsInMatching};
-ghost use Rattle.eos_faults.specs.LineageFaults.{AreLineageFaults};
+ghost use Rattle.eos_source_check.specs.FaultLists.{faults_in};
 ghost use Rattle.eos_source_check.specs.LaterFaults.{AreLaterFaults};
 
+use crate::lists::{AllFaults, listed};
 use eos_check::Fault;
 use eos_commits::VisibleFault;
 use eos_evidence::Spec;
-use eos_faults::{all_output_faults, all_record_faults};
+use eos_faults::{all_record_faults, lent_output_faults};
 use eos_kept::{Logs, Part};
 use eos_lineage::LineageFault;
 use eos_table::{LogFault, MatchFault, all_log_faults, all_match_faults};
@@ -58,36 +59,32 @@ fn of_lineage(alloc: Global, faults: Vec<LineageFault>) -> Result<Vec<Fault>, Al
     Ok(list)
 }
 
-/// The fourth phase, or else the fifth.
-fn lineage_faults(
+/// Where neither the transaction log nor the matching has a fault: the fourth phase, or else the fifth.
+fn after_matching<'a>(
     alloc: Global,
-    spec: &Spec,
-    logs: &[Part],
-) -> Result<Vec<LineageFault>, AllocError>
-    ensures { AreInOrder logs.now → IfOk result (λ faults. AreLineageFaults spec.now.apps logs.now faults.items) }
+    spec: &'a Spec,
+    logs: &'a [Part],
+) -> Result<AllFaults<'a>, AllocError>
+    ensures { AreInOrder logs.now → NoneStands (StandsInLog logs.now) → NoneStands (StandsInMatching logs.now)
+        → IfOk result (λ faults. AreLaterFaults spec.now.apps logs.now (faults_in faults)) }
 {
     let faults = all_record_faults(alloc, spec.apps().as_slice(), logs)?;
     if faults.is_empty() {
-        let list = all_output_faults(alloc, spec, logs)?;
-        return Ok(list);
+        let lent = lent_output_faults(alloc, spec, logs)?;
+        return Ok(AllFaults::OfOutputs(lent));
     }
-    let list = of_records(alloc, faults)?;
-    Ok(list)
-}
-
-/// Where neither the transaction log nor the matching has a fault.
-fn after_matching(alloc: Global, spec: &Spec, logs: &[Part]) -> Result<Vec<Fault>, AllocError>
-    ensures { AreInOrder logs.now → NoneStands (StandsInLog logs.now) → NoneStands (StandsInMatching logs.now)
-        → IfOk result (λ faults. AreLaterFaults spec.now.apps logs.now faults.items) }
-{
-    let faults = lineage_faults(alloc, spec, logs)?;
-    let list = of_lineage(alloc, faults)?;
-    Ok(list)
+    let records = of_records(alloc, faults)?;
+    let list = of_lineage(alloc, records)?;
+    Ok(AllFaults::Listed(list))
 }
 
 /// Where the transaction log has no fault.
-fn after_log(alloc: Global, spec: &Spec, logs: &[Part]) -> Result<Vec<Fault>, AllocError>
-    ensures { AreInOrder logs.now → NoneStands (StandsInLog logs.now) → IfOk result (λ faults. AreLaterFaults spec.now.apps logs.now faults.items) }
+fn after_log<'a>(
+    alloc: Global,
+    spec: &'a Spec,
+    logs: &'a [Part],
+) -> Result<AllFaults<'a>, AllocError>
+    ensures { AreInOrder logs.now → NoneStands (StandsInLog logs.now) → IfOk result (λ faults. AreLaterFaults spec.now.apps logs.now (faults_in faults)) }
 {
     let faults = all_match_faults(alloc, logs)?;
     if faults.is_empty() {
@@ -95,11 +92,15 @@ fn after_log(alloc: Global, spec: &Spec, logs: &[Part]) -> Result<Vec<Fault>, Al
         return Ok(list);
     }
     let list = of_matching(alloc, faults)?;
-    Ok(list)
+    Ok(AllFaults::Listed(list))
 }
 
-fn after_partitions(alloc: Global, spec: &Spec, logs: &[Part]) -> Result<Vec<Fault>, AllocError>
-    ensures { AreInOrder logs.now → IfOk result (λ faults. AreLaterFaults spec.now.apps logs.now faults.items) }
+fn after_partitions<'a>(
+    alloc: Global,
+    spec: &'a Spec,
+    logs: &'a [Part],
+) -> Result<AllFaults<'a>, AllocError>
+    ensures { AreInOrder logs.now → IfOk result (λ faults. AreLaterFaults spec.now.apps logs.now (faults_in faults)) }
 {
     let faults = all_log_faults(alloc, logs)?;
     if faults.is_empty() {
@@ -107,7 +108,19 @@ fn after_partitions(alloc: Global, spec: &Spec, logs: &[Part]) -> Result<Vec<Fau
         return Ok(list);
     }
     let list = of_log(alloc, faults)?;
-    Ok(list)
+    Ok(AllFaults::Listed(list))
+}
+
+/// What `later_faults` lists, where it stands in these logs.
+pub(crate) fn lent_faults<'a>(
+    alloc: Global,
+    spec: &'a Spec,
+    logs: &'a Logs,
+) -> Result<AllFaults<'a>, AllocError>
+    ensures { AreInOrder logs.now.parts.items → IfOk result (λ faults. AreLaterFaults spec.now.apps logs.now.parts.items (faults_in faults)) }
+{
+    let all = after_partitions(alloc, spec, logs.parts.as_slice())?;
+    Ok(all)
 }
 
 /// Every fault of the phases behind the first that stands in these logs, whole or kept ones, as if none had a fault by itself: in
@@ -122,6 +135,7 @@ fn after_partitions(alloc: Global, spec: &Spec, logs: &[Part]) -> Result<Vec<Fau
 pub fn later_faults(alloc: Global, spec: &Spec, logs: &Logs) -> Result<Vec<Fault>, AllocError>
     ensures { AreInOrder logs.now.parts.items → IfOk result (λ faults. AreLaterFaults spec.now.apps logs.now.parts.items faults.items) }
 {
-    let list = after_partitions(alloc, spec, logs.parts.as_slice())?;
+    let all = lent_faults(alloc, spec, logs)?;
+    let list = listed(alloc, all)?;
     Ok(list)
 }

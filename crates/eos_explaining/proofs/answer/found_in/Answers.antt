@@ -1,11 +1,12 @@
 use Rattle.std.proofs.Common.{map, refl}
 use Rattle.eos_verdict.specs.declared.verdict.Verdict.TheVariants.{No}
+use Rattle.eos_source_check.specs.FaultLists.{faults_in}
 use Rattle.eos_explaining.proofs.answer.found_in.Goals as goal
 
 pub returns : goal.returns
 returns c =
     let kept = c.requires.logs in
-    let faults = c.in_ok-faults.faults.items in
+    let faults = faults_in c.in_ok-faults.faults in
     record {
       logs = kept.whole;
       told = map No faults;

@@ -1,9 +1,10 @@
+use Rattle.std.proofs.Common.{map}
 use Rattle.eos_faults.specs.steps.OutputFaultsGathered.{lacking}
-use Rattle.eos_faults.specs.steps.Plain.{place_at}
+use Rattle.eos_faults.specs.steps.Plain.{fault_of, place_at}
 use Rattle.eos_faults.proofs.PushedOnto.{pushed_onto}
 use Rattle.eos_faults.proofs.shown_by_claims.push_inputs.Goals as goal
 
 pub loop-input-preserved : goal.loop-input-preserved
 loop-input-preserved c = λ a are.
-    pushed_onto (lacking a) place_at c.args.faults.now.items c.loop-input.faults.items c.push_input.new.faults.items c.args.inputs.now c.loop-input.input-index _ c.loop-input-test.true (c.loop-input.invariant a are)
+    pushed_onto (lacking a) place_at (map fault_of c.args.faults.now.items) (map fault_of c.loop-input.faults.items) (map fault_of c.push_input.new.faults.items) c.args.inputs.now c.loop-input.input-index _ c.loop-input-test.true (c.loop-input.invariant a are)
     (c.in_ok-push_input.ensures a are)

@@ -9,6 +9,7 @@ use Rattle.eos_reading.specs.Wanted.{wanted_logs}
 use Rattle.eos_check.proofs.KeptOrder.{all_kept}
 use Rattle.eos_check.proofs.NamedFaults.{first_named}
 use Rattle.eos_source_check.specs.AllFaults.{AreAllFaults}
+use Rattle.eos_source_check.specs.FaultLists.{faults_in}
 use Rattle.eos_source_check.specs.LaterFaults.{AreLaterFaults}
 use Rattle.eos_source_check.proofs.AllPhases.{none_in_partitions, found_in_partitions}
 use Rattle.eos_source_check.proofs.LaterAlike.{kept_later}
@@ -27,10 +28,10 @@ returns c = λ kept.
     let e = c.args.evidence.now in
     let parts = c.args.logs.now.parts.items in
     let is = c.spec-spec.ensures.evidence in
-    let list = c.in_ok-list-2.list.items in
+    let list = faults_in c.in_ok-later.later in
     let found : first_of c.args.logs.now.faults.items ≡ None = search rules in
     let none : IsFirstFault kept.whole None = subst (IsFirstFault kept.whole) found (first_named e.partitions kept.whole kept.of c.args.logs.now.faults.items kept.faults) in
     let order : AreInOrder parts = subst AreInOrder (sym kept.parts) ((all_kept e.spec.apps kept.whole).1 (in_order e kept.whole is kept.of)) in
-    let over_parts = subst (λ (s : SpecFields). AreLaterFaults s.apps parts list) c.spec-spec.ensures.value (c.in_ok-list-2.ensures order) in
+    let over_parts = subst (λ (s : SpecFields). AreLaterFaults s.apps parts list) c.spec-spec.ensures.value (c.in_ok-later.ensures order) in
     let over_kept : AreLaterFaults e.spec.apps (wanted_logs e.spec.apps kept.whole) list = subst (λ (ls : List PartLog). AreLaterFaults e.spec.apps ls list) kept.parts over_parts in
     (kept_later e kept.whole kept.of (none_in_partitions e kept.whole kept.of is none) list).0 over_kept
