@@ -2,11 +2,12 @@
 """How many threads `check` starts, which only its speed depends on, and how many work at once: never more than there are workers.
 The caller does one share of each step itself, so a step in n shares starts n - 1, and with one worker none is started.
 
-With N workers, over P partitions, O of them of output topics, these are: those that draw pieces and read them, N, and the quick walk of the
-matching, N, which the shards repeat where it says no. Then M = N look at the lineage; but where the transaction log has a record or more for
-4 N (N - 1) of all, M = N - 1 do so while one reads it. The faults of single records are found in M shares or P, if these are fewer, the claims
-in as many shares as runs of O / M partitions, rounded up, make; where there are 4,096 claims or more, the sort of these, in at most M; and the
-source logs beside the claims, in at most M, which is one to three where there is one source partition.
+With N workers, over P partitions, O of them of output topics, these are: those that draw pieces and read them, N; those that join them and
+make the partitions' parts, one for each 16,384 batches, at most N; and the quick walk of the matching, N, which the shards repeat where it
+says no. Then M = N look at the lineage; but where the transaction log has a record or more for 4 N (N - 1) of all, M = N - 1 do so while
+one reads it. The faults of single records are found in M shares or P, if these are fewer, the claims in as many shares as runs of O / M
+partitions, rounded up, make; where there are 4,096 claims or more, the sort of these, in at most M; and the source logs beside the claims,
+in at most M, which is one to three where there is one source partition.
 
 Without `--workers` there are four. Who asks `check_lineage` and names no number gets at most 64: tests/unproved.py asks that.
 

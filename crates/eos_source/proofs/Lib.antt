@@ -1,6 +1,8 @@
+mod PartitionsShared
 mod PartitionsTold
 mod PiecesDrawn
 mod PiecesJoined
+mod PiecesOrdered
 mod PiecesRead
 mod ShapesFilled
 mod SlotsFilled

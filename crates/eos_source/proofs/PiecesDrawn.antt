@@ -6,6 +6,7 @@ use Rattle.std.proofs.lemmas.List.Sums.{sum_by-cons, sum_by-append}
 use Rattle.std.specs.Prelude.{All, Any, IsOk, IfOk}
 use Rattle.std.specs.List.{count_by}
 use Rattle.eos_source.specs.declared.seats.Stint.{Stint}
+use Rattle.eos_source.specs.steps.Order.{ordered}
 use Rattle.eos_source.specs.steps.Seats.{numbers_in, all_numbers, LeavesNone}
 use Rattle.eos_board.specs.SeatViews.{Counter, SeatView, AreBelow, drawn_of_all, once_below}
 
@@ -50,7 +51,7 @@ all_map f P (x ∷ xs) h (suc k) d lt = all_map f P xs (λ k d lt. h (suc k) d (
 abbrev times : Bool → ℕ
 times b = cond b 1 0
 
-none_in : (n x : ℕ) (xs : List ℕ) → All (λ m. m < n) xs → n ≤ x → count_by (λ y. y == x) xs ≡ 0
+pub none_in : (n x : ℕ) (xs : List ℕ) → All (λ m. m < n) xs → n ≤ x → count_by (λ y. y == x) xs ≡ 0
 none_in n x [] all le = refl
 none_in n x (y ∷ ys) all le =
     let other : (y == x) ≡ false = ne_eqb y x (λ e. omega (arith, e, le, all 0 y (omega arith))) in
@@ -69,10 +70,13 @@ if_ok (Ok t) Q ok h = h
 if_ok (Err e) Q ok h = absurd (false≢true ok)
 
 module _ {F : Type 0} where
-  pub numbers_drawn : (stints : List (Stint F)) → All (λ s. numbers_in s.read.items ≡ s.seat.drawn) stints → all_numbers (map (λ s. s.read) stints) ≡ drawn_of_all (map (λ s. s.seat) stints)
-  numbers_drawn [] h = refl
-  numbers_drawn (s ∷ ss) h =
-      ap (λ xs. xs ++ all_numbers (map (λ s. s.read) ss)) (h 0 s (omega arith)) ∙ ap (λ xs. s.seat.drawn ++ xs) (numbers_drawn ss (λ k d lt. h (suc k) d (omega (arith, lt))))
+  pub numbers_drawn : (order : List ℕ) (stints : List (Stint F)) → All (λ s. numbers_in s.read.items ≡ ordered order s.seat.drawn) stints
+      → all_numbers (map (λ s. s.read) stints) ≡ ordered order (drawn_of_all (map (λ s. s.seat) stints))
+  numbers_drawn order [] h = refl
+  numbers_drawn order (s ∷ ss) h =
+      ap (λ xs. xs ++ all_numbers (map (λ s. s.read) ss)) (h 0 s (omega arith))
+      ∙ (ap (λ xs. ordered order s.seat.drawn ++ xs) (numbers_drawn order ss (λ k d lt. h (suc k) d (omega (arith, lt))))
+      ∙ sym (map-append (λ (n : ℕ). get_or order n 0) s.seat.drawn (drawn_of_all (map (λ s. s.seat) ss))))
 
   seat_at : (stints : List (Stint F)) (k : ℕ) (s : Stint F) → k < length stints → get_or stints k s ≡ s
       → (k < length (map (λ s. s.seat) stints)) × (get_or (map (λ s. s.seat) stints) k s.seat ≡ s.seat) × (length s.seat.drawn ≤ length (drawn_of_all (map (λ s. s.seat) stints)))

@@ -30,7 +30,7 @@ module _ {F : Type 0} where
   first_behind [] after why r = r
   first_behind (run ∷ runs) after why r = first_behind runs after why r
 
-  passed_refused : (count : ℕ) (before after : List (Result KeptRun F)) (why : F) → ArePassed count before after → IsFirstRefused after why → IsFirstRefused before why
+  pub passed_refused : (count : ℕ) (before after : List (Result KeptRun F)) (why : F) → ArePassed count before after → IsFirstRefused after why → IsFirstRefused before why
   passed_refused count before after why p r = subst (λ (xs : List (Result KeptRun F)). IsFirstRefused xs why) (sym p.2) (first_behind p.0 after why r)
 
   pub refused_here : (count : ℕ) (before slots rest : List (Result KeptRun F)) (why : F) → slots ≡ Err why ∷ rest → ArePassed count before slots → IsFirstRefused before why

@@ -1,4 +1,5 @@
 -- What only private functions promise: steps towards what the public calls say.
+pub mod Order
 pub mod Partitions
 pub mod Runs
 pub mod Seats

@@ -1,32 +1,25 @@
 //! The kept logs of all partitions.
 
-ghost use Rattle.std.specs.Prelude.{◌≡◌, ◌⊎◌, ◌+◌, ◌++◌, ◌∷◌, [], ℕ, List, length, IfOk, IfErr, OnOk, IsPermutation, alloc_error};
-ghost use Rattle.std.specs.Vec.Iter.{into_iter_items};
-ghost use Rattle.eos_evidence.specs.Evidence.{IsPartition, segments_of};
-ghost use Rattle.eos_evidence.specs.SpecFields.{outputs_of};
-ghost use Rattle.eos_evidence.specs.declared.segment.Segment.{Segment};
-ghost use Rattle.eos_source.specs.Logs.{AreKeptLogs, tally_of};
+ghost use Rattle.std.specs.Prelude.{◌≡◌, ◌++◌, ◌∷◌, [], length, IfOk, IfErr, OnOk, alloc_error};
+ghost use Rattle.eos_evidence.specs.Evidence.{segments_of};
+ghost use Rattle.eos_source.specs.Logs.{AreColumns, AreKeptLogs, tally_of};
 ghost use Rattle.eos_source.specs.Refusals.{AreOpened, IsRefusal};
-ghost use Rattle.eos_source.specs.Said.{Said, known_by};
-ghost use Rattle.eos_source.specs.steps.Partitions.{IsToldOf, AreToldOf};
-ghost use Rattle.eos_source.specs.steps.Runs.{AreSlots, AreSlotsOf, IsFirstRefused, ArePassed};
+ghost use Rattle.eos_source.specs.Said.{known_by};
 ghost use Rattle.eos_board.specs.SeatViews.{AreBelow};
 
-use crate::joined::next_run;
 use crate::plan::Plan;
+use crate::share::{Share, threads_for, told_by};
 use crate::slots::read_all;
 use crate::source::Source;
-use crate::told::told_of;
 use eos_base::{Listed, Workers};
 use eos_board::Drawn;
 use eos_commits::source_topics;
-use eos_evidence::{Evidence, Partition};
-use eos_kept::{KeptPart, KeptRun, Sizes, Told};
+use eos_evidence::Evidence;
+use eos_kept::{KeptPart, Sizes, Told};
 use eos_reading::{EpochEntry, Wants};
 use eos_touch::PartitionFault;
 use std::alloc::{AllocError, Global};
 use std::thread::Threads;
-use std::vec::IntoIter;
 
 /// How much there is of a partition's log: the batches of its front, control batches too, and its segments with their bytes.
 #[derive(Clone, Copy)]
@@ -86,49 +79,14 @@ impl KeptLogs {
     }
 }
 
-/// What is told of a partition of this shape, out of the next slots.
-fn next_told<S: Source>(
-    alloc: Global,
-    plan: &Plan<'_, S>,
-    shape: &Partition,
-    slots: &mut IntoIter<Result<KeptRun, S::Fault>>,
-) -> Result<Told, S::Fault>
-    requires wants { IsPermutation (outputs_of plan.now.shape.now.spec.apps) plan.now.wants }
-    requires partition { IsPartition shape.now }
-    requires slots { (said : ℕ → Said) × (piece : ℕ) × (later : List Segment)
-        × AreSlotsOf (known_by (S.said plan.now.source.now) (S.is_log plan.now.source.now)) said plan.now.topics.now plan.now.shape.now.spec.apps piece (shape.now.segments ++ later) (into_iter_items slots.old) }
-    ensures told { (said : ℕ → Said) (piece : ℕ) (later : List Segment)
-        → AreSlotsOf (known_by (S.said plan.now.source.now) (S.is_log plan.now.source.now)) said plan.now.topics.now plan.now.shape.now.spec.apps piece (shape.now.segments ++ later) (into_iter_items slots.old)
-        → IfOk result (λ told. IsToldOf (known_by (S.said plan.now.source.now) (S.is_log plan.now.source.now)) said plan.now.shape.now.spec.apps piece shape.now told
-        × AreSlotsOf (known_by (S.said plan.now.source.now) (S.is_log plan.now.source.now)) said plan.now.topics.now plan.now.shape.now.spec.apps (piece + length shape.now.segments) later (into_iter_items slots.new)) }
-    ensures passed { IfOk result (λ told. ArePassed (length shape.now.segments) (into_iter_items slots.old) (into_iter_items slots.new)) }
-    ensures refused { IfErr result (λ why. IsFirstRefused (into_iter_items slots.old) why ⊎ S.Fault.from_gives alloc_error why) }
-{
-    let end = shape.end.clone()?;
-    let run = next_run(alloc, shape.segments.as_slice(), slots)?;
-    let asked = plan.asked_of(shape.end.topic.as_slice());
-    Ok(told_of(alloc, end, asked, run)?)
-}
-
-/// What is told of all partitions, out of the slots of all pieces.
-fn logs_of<S: Source>(
-    alloc: Global,
-    plan: &Plan<'_, S>,
-    slots: Vec<Result<KeptRun, S::Fault>>,
-    drawn: Drawn,
-) -> Result<KeptLogs, S::Fault>
-    requires wants { IsPermutation (outputs_of plan.now.shape.now.spec.apps) plan.now.wants }
-    requires slots { AreSlots (known_by (S.said plan.now.source.now) (S.is_log plan.now.source.now)) (S.outcomes plan.now.source.now) plan.now.topics.now plan.now.shape.now.spec.apps 0 (segments_of plan.now.shape.now.partitions) slots.items }
-    ensures told { IfOk result (λ logs. (said : ℕ → Said) × AreToldOf (known_by (S.said plan.now.source.now) (S.is_log plan.now.source.now)) said plan.now.shape.now.spec.apps plan.now.shape.now.partitions logs) }
+/// All that is told, column by column.
+fn logs_of(alloc: Global, told: Vec<Told>, drawn: Drawn) -> Result<KeptLogs, AllocError>
+    ensures told { IfOk result (AreColumns told.items) }
     ensures drawn { IfOk result (λ logs. logs.drawn ≡ drawn) }
-    ensures opened { IfOk result (λ logs. AreOpened (S.outcomes plan.now.source.now) (length (segments_of plan.now.shape.now.partitions))) }
-    ensures refused { IfErr result (λ why. IsFirstRefused slots.items why ⊎ S.Fault.from_gives alloc_error why) }
 {
     let mut logs = KeptLogs::new(alloc, drawn);
-    let mut slots = slots.into_iter();
-    let partitions = plan.shape.partitions();
-    for i in 0..partitions.len() {
-        logs.push(next_told(alloc, plan, &partitions[i], &mut slots)?)?;
+    for one in told {
+        logs.push(one)?;
     }
     Ok(logs)
 }
@@ -159,5 +117,12 @@ pub fn kept_logs<S: Source, R: Threads + Sync>(
         topics: topics.as_slice(),
     };
     let (slots, drawn) = read_all(alloc, rt, &plan, workers)?;
-    logs_of(alloc, &plan, slots, drawn)
+    let share = Share {
+        shapes: shape.partitions(),
+        slots,
+    };
+    let threads = threads_for(share.slots.as_slice(), workers);
+    let told = told_by(alloc, rt, &plan, share, threads)?;
+    let logs = logs_of(alloc, told, drawn)?;
+    Ok(logs)
 }

@@ -1,14 +1,16 @@
 //! Threads that draw pieces, one after the other, and keep what they read: a thread that is done with a small piece draws the next,
-//! so that large ones don't wait for each other.
+//! so that large ones don't wait for each other. Large ones are drawn first.
 
 ghost use Rattle.std.specs.Prelude.{◌≡◌, vec_len, length, map, set, All, Any, IsOk, IfOk, IsPermutation};
 ghost use Rattle.eos_evidence.specs.Evidence.{segments_of};
 ghost use Rattle.eos_evidence.specs.SpecFields.{outputs_of};
 ghost use Rattle.eos_source.specs.Said.{known_by};
+ghost use Rattle.eos_source.specs.steps.Order.{IsOrder};
 ghost use Rattle.eos_source.specs.steps.Seats.{IsReading, IsDesk, IsStint, numbers_in, all_numbers};
 ghost use Rattle.eos_source.specs.steps.Slots.{AreSlotsSoFar, AreFilledAsWell, IsFilled};
 ghost use Rattle.eos_board.specs.SeatViews.{IsFresh, AreBelow};
 
+use crate::order::order_of;
 use crate::plan::Plan;
 use crate::source::Source;
 use eos_base::Workers;
@@ -64,13 +66,15 @@ fn desks_of<F: Drop>(
 fn read_drawn<S: Source>(
     alloc: Global,
     plan: &Plan<'_, S>,
+    order: &[u64],
     tickets: &Tickets,
     desk: Desk<S::Fault>,
 ) -> Stint<S::Fault>
     requires wants { IsPermutation (outputs_of plan.now.shape.now.spec.apps) plan.now.wants }
+    requires order { IsOrder (length (segments_of plan.now.shape.now.partitions)) order.now }
     requires count { tickets.now.count ≡ length (segments_of plan.now.shape.now.partitions) }
     requires desk { IsDesk tickets.now desk }
-    ensures { IsStint tickets.now (known_by (S.said plan.now.source.now) (S.is_log plan.now.source.now)) (S.outcomes plan.now.source.now) plan.now.topics.now plan.now.shape.now.spec.apps (segments_of plan.now.shape.now.partitions) result }
+    ensures { IsStint tickets.now (known_by (S.said plan.now.source.now) (S.is_log plan.now.source.now)) (S.outcomes plan.now.source.now) plan.now.topics.now plan.now.shape.now.spec.apps (segments_of plan.now.shape.now.partitions) order.now result }
 {
     let Desk { mut seat, mut read } = desk;
     for _ in 0..plan.shape.pieces() {
@@ -81,13 +85,14 @@ fn read_drawn<S: Source>(
                 end: Err(refused),
             };
         }
-        let Some(piece) = tickets.draw(&mut seat) else {
+        let Some(number) = tickets.draw(&mut seat) else {
             return Stint {
                 seat,
                 read,
                 end: Ok(()),
             };
         };
+        let piece = order[number as usize];
         let run = plan.read(alloc, piece);
         read.push_reserved(Reading { piece, run });
     }
@@ -125,14 +130,16 @@ fn split_stints<F: Drop>(
 fn gathered<S: Source>(
     alloc: Global,
     plan: &Plan<'_, S>,
+    order: &[u64],
     tickets: &Tickets,
     stints: Vec<Stint<S::Fault>>,
 ) -> Result<(Vec<Vec<Reading<S::Fault>>>, Drawn), AllocError>
+    requires order { IsOrder (length (segments_of plan.now.shape.now.partitions)) order.now }
     requires all { vec_len stints ≡ tickets.now.workers }
     requires count { tickets.now.count ≡ length (segments_of plan.now.shape.now.partitions) }
-    requires each { All (IsStint tickets.now (known_by (S.said plan.now.source.now) (S.is_log plan.now.source.now)) (S.outcomes plan.now.source.now) plan.now.topics.now plan.now.shape.now.spec.apps (segments_of plan.now.shape.now.partitions)) stints.items }
+    requires each { All (IsStint tickets.now (known_by (S.said plan.now.source.now) (S.is_log plan.now.source.now)) (S.outcomes plan.now.source.now) plan.now.topics.now plan.now.shape.now.spec.apps (segments_of plan.now.shape.now.partitions) order.now) stints.items }
     ensures each { IfOk result (λ r. All (λ seat. All (IsReading (known_by (S.said plan.now.source.now) (S.is_log plan.now.source.now)) (S.outcomes plan.now.source.now) plan.now.topics.now plan.now.shape.now.spec.apps (segments_of plan.now.shape.now.partitions)) seat.items) r.0.items) }
-    ensures numbers { IfOk result (λ r. all_numbers r.0.items ≡ r.1) }
+    ensures pieces { IfOk result (λ r. AreBelow (length (segments_of plan.now.shape.now.partitions)) (all_numbers r.0.items)) }
     ensures once { IfOk result (λ r. AreBelow (length (segments_of plan.now.shape.now.partitions)) r.1) }
 {
     let (seats, read) = split_stints(alloc, stints)?;
@@ -148,9 +155,11 @@ pub(crate) fn read_by_threads<S: Source, R: Threads + Sync>(
 ) -> Result<(Vec<Vec<Reading<S::Fault>>>, Drawn), AllocError>
     requires { IsPermutation (outputs_of plan.now.shape.now.spec.apps) plan.now.wants }
     ensures each { IfOk result (λ r. All (λ seat. All (IsReading (known_by (S.said plan.now.source.now) (S.is_log plan.now.source.now)) (S.outcomes plan.now.source.now) plan.now.topics.now plan.now.shape.now.spec.apps (segments_of plan.now.shape.now.partitions)) seat.items) r.0.items) }
-    ensures numbers { IfOk result (λ r. all_numbers r.0.items ≡ r.1) }
+    ensures pieces { IfOk result (λ r. AreBelow (length (segments_of plan.now.shape.now.partitions)) (all_numbers r.0.items)) }
     ensures once { IfOk result (λ r. AreBelow (length (segments_of plan.now.shape.now.partitions)) r.1) }
 {
+    let pieces = order_of(alloc, plan.shape)?;
+    let order = pieces.as_slice();
     let (tickets, seats) = Tickets::new(alloc, plan.shape.pieces(), workers.get())?;
     let desks = desks_of(alloc, &tickets, seats)?;
     let stints = thread::map_vec(
@@ -158,12 +167,13 @@ pub(crate) fn read_by_threads<S: Source, R: Threads + Sync>(
         desks,
         &|desk: Desk<S::Fault>| -> Stint<S::Fault>
             requires wants { IsPermutation (outputs_of plan.now.shape.now.spec.apps) plan.now.wants }
+            requires order { IsOrder (length (segments_of plan.now.shape.now.partitions)) order.now }
             requires count { tickets.count ≡ length (segments_of plan.now.shape.now.partitions) }
             requires desk { IsDesk tickets desk }
-            ensures { IsStint tickets (known_by (S.said plan.entry.now.source.now) (S.is_log plan.entry.now.source.now)) (S.outcomes plan.entry.now.source.now) plan.entry.now.topics.now plan.entry.now.shape.now.spec.apps (segments_of plan.entry.now.shape.now.partitions) result }
-        { read_drawn(alloc, plan, &tickets, desk) },
+            ensures { IsStint tickets (known_by (S.said plan.entry.now.source.now) (S.is_log plan.entry.now.source.now)) (S.outcomes plan.entry.now.source.now) plan.entry.now.topics.now plan.entry.now.shape.now.spec.apps (segments_of plan.entry.now.shape.now.partitions) order.entry.now result }
+        { read_drawn(alloc, plan, order, &tickets, desk) },
     )?;
-    gathered(alloc, plan, &tickets, stints)
+    gathered(alloc, plan, order, &tickets, stints)
 }
 
 /// Puts an item at a place of a list, where there is one.

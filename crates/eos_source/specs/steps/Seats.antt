@@ -7,6 +7,7 @@ use Rattle.eos_source.specs.declared.seats.Desk.{Desk}
 use Rattle.eos_source.specs.declared.seats.Reading.{Reading}
 use Rattle.eos_source.specs.declared.seats.Stint.{Stint}
 use Rattle.eos_source.specs.Said.{Known}
+use Rattle.eos_source.specs.steps.Order.{ordered}
 use Rattle.eos_source.specs.steps.Runs.{IsSlot}
 use Rattle.eos_board.specs.SeatViews.{Counter, SeatView, IsFresh}
 
@@ -28,11 +29,11 @@ pub record IsDesk {F : Type 0} (of : Counter) (desk : Desk F) : Type 0 where
   pub nothing : desk.read.items ≡ []
   pub room : 1 ≤ vec_capacity desk.read
 
--- What a thread read with a seat of these tickets. Only where it has read one, and there was no room for a further one, may it
+-- What a thread read with a seat of these tickets, whose numbers stand for pieces in an order. Only where it has read one, and there was no room for a further one, may it
 -- leave some to others.
-pub record IsStint {F : Type 0} (of : Counter) (known : ℕ → Known) (outcomes : ℕ → Option F → Type 0) (topics : List (List ℕ)) (apps : List App) (names : List Segment) (stint : Stint F) : Type 0 where
+pub record IsStint {F : Type 0} (of : Counter) (known : ℕ → Known) (outcomes : ℕ → Option F → Type 0) (topics : List (List ℕ)) (apps : List App) (names : List Segment) (order : List ℕ) (stint : Stint F) : Type 0 where
   pub made : stint.seat.of ≡ of
-  pub numbers : numbers_in stint.read.items ≡ stint.seat.drawn
+  pub numbers : numbers_in stint.read.items ≡ ordered order stint.seat.drawn
   pub each : All (IsReading known outcomes topics apps names) stint.read.items
   pub there : All (λ n. n < of.count) stint.seat.drawn
   pub ended : IfOk stint.end (λ done. LeavesNone stint.seat)

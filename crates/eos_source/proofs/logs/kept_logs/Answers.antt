@@ -1,21 +1,41 @@
-use Rattle.std.proofs.Common.{inl, inr}
-use Rattle.std.proofs.lemmas.Result.{IfErr-weaker}
+use Rattle.std.proofs.Common.{List, length, inl, inr, sym, subst}
+use Rattle.std.proofs.lemmas.Result.{err_from_is_err_and}
+use Rattle.eos_evidence.specs.declared.partition.Partition.{Partition}
 use Rattle.eos_evidence.specs.Evidence.{segments_of}
 use Rattle.eos_source.specs.Said.{known_by}
-use Rattle.eos_source.proofs.PartitionsTold.{all_kept}
-use Rattle.eos_source.proofs.SlotsRefused.{first_refused}
+use Rattle.eos_source.specs.steps.Partitions.{AreEachToldOf}
+use Rattle.eos_source.specs.steps.Runs.{AreSlotsOf, ArePassed}
+use Rattle.eos_source.proofs.PartitionsShared.{kept_logs}
+use Rattle.eos_source.proofs.SlotsRead.{were_said}
+use Rattle.eos_source.proofs.SlotsRefused.{first_refused, all_opened}
 use Rattle.eos_source.proofs.logs.kept_logs.Goals as goal
 
-pub returns-clause-logs : goal.returns-clause-logs
-returns-clause-logs g c = all_kept (known_by (g.S.Source.said c.args.source.now) (g.S.Source.is_log c.args.source.now)) c.args.shape.now c.logs_of.result c.spec.ensures.evidence c.logs_of.ensures.told
-
-pub returns-clause-refused : goal.returns-clause-refused
-returns-clause-refused g c =
+pub told_by-requires-clause-slots : goal.told_by-requires-clause-slots
+told_by-requires-clause-slots g c κs within =
     let known = known_by (g.S.Source.said c.args.source.now) (g.S.Source.is_log c.args.source.now) in
-    let outcomes = g.S.Source.outcomes c.args.source.now in
-    IfErr-weaker c.logs_of.result _ _
-    (λ why r. elim r [
-      | inl first ↦ inl (first_refused known outcomes _ c.args.shape.now.spec.apps (segments_of c.args.shape.now.partitions) c.in_ok-slots.slots.items why c.in_ok-slots.ensures.slots first)
+    let w = were_said known (g.S.Source.outcomes c.args.source.now) _ c.args.shape.now.spec.apps (segments_of c.args.shape.now.partitions) c.in_ok-slots.slots.items c.in_ok-slots.ensures.slots in
+    (w.0, 0, subst (λ (ps : List Partition). AreSlotsOf known w.0 c.as_slice.result.now c.args.shape.now.spec.apps 0 (segments_of ps) c.in_ok-slots.slots.items) (sym c.partitions.ensures.value) w.1)
+
+pub returns-clause-logs : goal.returns-clause-logs
+returns-clause-logs g c =
+    let known = known_by (g.S.Source.said c.args.source.now) (g.S.Source.is_log c.args.source.now) in
+    let w = were_said known (g.S.Source.outcomes c.args.source.now) _ c.args.shape.now.spec.apps (segments_of c.args.shape.now.partitions) c.in_ok-slots.slots.items c.in_ok-slots.ensures.slots in
+    let apps = c.args.shape.now.spec.apps in
+    let slots = subst (λ (ps : List Partition). AreSlotsOf known w.0 c.as_slice.result.now apps 0 (segments_of ps) c.in_ok-slots.slots.items) (sym c.partitions.ensures.value) w.1 in
+    let each = subst (λ (ps : List Partition). AreEachToldOf known w.0 apps 0 ps c.in_ok-told.told.items) c.partitions.ensures.value (c.in_ok-told.ensures.each w.0 0 slots) in
+    kept_logs known w.0 c.args.shape.now c.in_ok-told.told.items c.in_ok-logs.logs c.spec.ensures.evidence each c.in_ok-logs.ensures.told
+
+pub returns-clause-opened : goal.returns-clause-opened
+returns-clause-opened g c =
+    let known = known_by (g.S.Source.said c.args.source.now) (g.S.Source.is_log c.args.source.now) in
+    all_opened known (g.S.Source.outcomes c.args.source.now) _ c.args.shape.now.spec.apps (segments_of c.args.shape.now.partitions) c.in_ok-slots.slots.items c.in_ok-told.ensures.passed.0 c.in_ok-slots.ensures.slots
+    (subst (λ (ps : List Partition). ArePassed (length (segments_of ps)) c.in_ok-slots.slots.items c.in_ok-told.ensures.passed.0) c.partitions.ensures.value c.in_ok-told.ensures.passed.1)
+
+pub returns-in_err-told-clause-refused : goal.returns-in_err-told-clause-refused
+returns-in_err-told-clause-refused g c =
+    let known = known_by (g.S.Source.said c.args.source.now) (g.S.Source.is_log c.args.source.now) in
+    let p = err_from_is_err_and c.from_residual-in_err-told.result c.from_residual-in_err-told.ensures.1 in
+    rw (p.1, p.2) (elim c.in_err-told.ensures.refused [
+      | inl first ↦ inl (first_refused known (g.S.Source.outcomes c.args.source.now) _ c.args.shape.now.spec.apps (segments_of c.args.shape.now.partitions) c.in_ok-slots.slots.items _ c.in_ok-slots.ensures.slots first)
       | inr memory ↦ inr memory
     ])
-    c.logs_of.ensures.refused

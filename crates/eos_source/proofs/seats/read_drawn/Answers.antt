@@ -1,12 +1,20 @@
-use Rattle.std.proofs.Common.{◌≡◌, ◌<◌, sym, subst, ap, ◌∙◌, arith, rules}
+use Rattle.std.proofs.Common.{◌≡◌, ◌<◌, ℕ, ◌∷◌, [], ◌++◌, length, get_or, sym, subst, ap, ◌∙◌, arith, rules}
+use Rattle.std.proofs.lemmas.List.{map-append}
 use Rattle.std.proofs.lemmas.Bool.{false≢true}
 use Rattle.std.proofs.lemmas.Grind.{common_steps}
 use Rattle.std.specs.Prelude.{All}
 use Rattle.eos_evidence.specs.Evidence.{segments_of}
 use Rattle.eos_source.specs.Said.{known_by}
+use Rattle.eos_source.specs.steps.Order.{ordered}
 use Rattle.eos_source.specs.steps.Seats.{IsReading, numbers_in}
 use Rattle.eos_source.proofs.PiecesDrawn.{all_last}
+use Rattle.eos_source.proofs.PiecesOrdered.{piece_below}
 use Rattle.eos_source.proofs.seats.read_drawn.Goals as goal
+
+pub read-run-requires-clause-piece : goal.read-run-requires-clause-piece
+read-run-requires-clause-piece g c κs within =
+    let count = length (segments_of c.args.plan.now.shape.now.partitions) in
+    piece_below count c.args.order.now c.in-Some.number c.requires.order (omega (arith, c.in-Some.ensures.some.0, c.requires.count))
 
 pub loop-preserved : goal.loop-preserved
 loop-preserved g c =
@@ -15,7 +23,12 @@ loop-preserved g c =
     let each = subst (λ xs. All Is xs) (sym c.push_reserved.ensures.items) (all_last Is c.reserve.new.self.items _ before (λ name at. c.read-run.ensures name at)) in
     let some = c.in-Some.ensures.some in
     let there = subst (λ ds. All (λ n. n < c.args.tickets.now.count) ds) (sym some.1) (all_last (λ n. n < c.args.tickets.now.count) c.loop.seat.drawn _ c.loop.invariant.4 some.0) in
-    (search rules, search rules, grind (arith, common_steps), each, there, search rules, omega (arith, c.reserve.ensures.capacity, c.push_reserved.ensures.capacity, c.loop.invariant.6))
+    let numbers =
+    ap numbers_in c.push_reserved.ensures.items
+    ∙ (map-append (λ r. r.piece) c.reserve.new.self.items _
+    ∙ (ap (λ ns. ns ++ get_or c.args.order.now c.in-Some.number 0 ∷ []) (ap numbers_in c.reserve.ensures.items ∙ c.loop.invariant.2)
+    ∙ (sym (map-append (λ (n : ℕ). get_or c.args.order.now n 0) c.loop.seat.drawn _) ∙ ap (ordered c.args.order.now) (sym some.1)))) in
+    (search rules, search rules, numbers, each, there, search rules, omega (arith, c.reserve.ensures.capacity, c.push_reserved.ensures.capacity, c.loop.invariant.6))
 
 -- no place for a further reading, behind at least one
 pub returns-in-Err : goal.returns-in-Err
@@ -39,7 +52,7 @@ returns-in_default-draw g c =
     let none = c.in_default-draw.ensures.none in
     record {
       made = c.draw.ensures.of;
-      numbers = ap numbers_in same ∙ (c.loop.invariant.2 ∙ sym none.0);
+      numbers = ap numbers_in same ∙ (c.loop.invariant.2 ∙ ap (ordered c.args.order.now) (sym none.0));
       each = subst (λ xs. All Is xs) (sym same) c.loop.invariant.3;
       there = subst (λ ds. All (λ n. n < c.args.tickets.now.count) ds) (sym none.0) c.loop.invariant.4;
       ended = λ left. absurd (false≢true (sym left ∙ none.1));

@@ -73,10 +73,9 @@ filled-requires g c =
     let yields = YieldsList-from_vec {s = c.into_iter-seat-iterator.result} seats.items gives.0 (gives.1 ∙ seats.ok.0) in
     let all : c.loop-seat.yielded ≡ seats.items =
     sym (map-id c.loop-seat.yielded) ∙ (YieldsList-end yields c.loop-seat.yielded c.loop-seat.seat-iterator c.loop-seat.yielded_by c.next.result c.next.new.self c.in-None.is c.next.ensures.steps).0 in
-    let numbers = ap all_numbers all ∙ c.in_ok-seats.ensures.numbers in
     let len : length (segments_of c.args.plan.now.shape.now.partitions) ≡ length slots.items = omega (arith, slots.ok.0, c.loop-seat.invariant.3) in
     all_filled slots.items (all_numbers c.loop-seat.yielded) c.loop-seat.invariant.5
-    (λ x. ap (count_by (λ y. y == x)) numbers ∙ (c.in_ok-seats.ensures.once x ∙ ap (once_below x) len))
+    (λ x. ap (λ ss. count_by (λ y. y == x) (all_numbers ss)) all ∙ (c.in_ok-seats.ensures.pieces x ∙ ap (once_below x) len))
 
 pub returns-clause-slots : goal.returns-clause-slots
 returns-clause-slots g c =

@@ -11,7 +11,7 @@ use Rattle.eos_source.specs.Said.{known_by}
 use Rattle.eos_source.specs.steps.Runs.{asking, AreRead, AreKeptRun, IsWantedBy, HaveClaims, AreSlotsOf, ArePassed}
 use Rattle.eos_source.proofs.ShapesFilled.{of_topic}
 use Rattle.eos_source.proofs.PartitionsTold.{as_wanted, have_claims, told_of, same_end}
-use Rattle.eos_source.proofs.logs.next_told.Goals as goal
+use Rattle.eos_source.proofs.share.next_told.Goals as goal
 
 pub next_run-requires : goal.next_run-requires
 next_run-requires g c =
