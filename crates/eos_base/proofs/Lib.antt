@@ -7,3 +7,4 @@ pub mod SortedSearch
 pub mod RecordFaults
 pub mod TiedKept
 pub mod WholeList
+pub mod PlainNumbers

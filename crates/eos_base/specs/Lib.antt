@@ -6,3 +6,4 @@ pub mod Fallible
 pub mod Records
 pub mod steps
 pub mod AllOf
+pub mod Decimals

@@ -42,14 +42,14 @@ fn fault_at<'a>(kind: OutputKind, claim: &LentClaim<'a>) -> Found<'a>
     }
 }
 
-/// Neither in 1 to the count, nor the note 0 of 0.
-fn is_out_of_range(claim: &LentClaim<'_>) -> bool
-    ensures { result ≡ is_out claim.now.of claim.now.output }
+/// Whether a claim's number is neither in 1 to its count, nor the note 0 of 0.
+pub fn is_out_of_range(of: u32, output: u32) -> bool
+    ensures { result ≡ is_out of output }
 {
-    if claim.of == 0 {
-        claim.output > 0
+    if of == 0 {
+        output > 0
     } else {
-        claim.output == 0 || claim.output > claim.of
+        output == 0 || output > of
     }
 }
 
@@ -74,7 +74,7 @@ pub fn least_of_claim<'a>(
     }
     let best = with_tested(
         best,
-        is_out_of_range(claim),
+        is_out_of_range(claim.of, claim.output),
         fault_at(OutputKind::NumberRange, claim),
     );
     with_tested(

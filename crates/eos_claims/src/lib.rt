@@ -12,9 +12,9 @@ pub mod laws;
 mod neighbours;
 mod place;
 
-pub use alone::{LentClaim, SourceTests, least_of_claim, least_of_input};
+pub use alone::{LentClaim, SourceTests, is_out_of_range, least_of_claim, least_of_input};
 pub use claim::{Claim, ClaimRef, read_claim, view_claim};
 pub use fault::{OutputFault, OutputKind};
 pub use found::Found;
 pub use neighbours::{NumberedClaim, least_of_neighbours};
-pub use place::{Place, PlaceRef, SourceRef};
+pub use place::{Place, PlaceRef, SourceRef, source_at};

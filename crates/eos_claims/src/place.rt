@@ -28,7 +28,7 @@ pub struct SourceRef<'a> {
 }
 
 /// The same place.
-pub(crate) fn source_at<'a>(place: PlaceRef<'a>) -> SourceRef<'a>
+pub fn source_at<'a>(place: PlaceRef<'a>) -> SourceRef<'a>
     ensures { plain_source result ≡ plain_place place.entry }
 {
     SourceRef {

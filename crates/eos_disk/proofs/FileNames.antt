@@ -1,6 +1,5 @@
 -- What the digits of a file's name read as.
 use Rattle.std.proofs.Common.{◌≡◌, ℕ, ◌<◌, ◌≤◌, ◌^◌, ◌&&◌, ◌==◌, List, length, true, false, nat_lt, None, Some, refl, arith}
-use Rattle.std.proofs.Math.Nat.{pow-le-pow_right}
 use Rattle.std.proofs.lemmas.Bool.Decides.{nat_tests}
 use Rattle.std.specs.Char.{is_ascii_digit}
 use Rattle.std.specs.List.{list_all}
@@ -22,9 +21,3 @@ unfolding base_in
 base_is text digits small =
     let fits : nat_lt (digits_value 10 text) (2 ^ 63) ≡ true = grind (arith, nat_tests, small) in
     rw (digits, fits) refl
-
--- what fewer than 20 digits write
-pub few_digits : (k : ℕ) → k ≤ 19 → 10 ^ k ≤ 10 ^ 19
-few_digits k h =
-    let some : 0 < 10 = omega arith in
-    pow-le-pow_right some h

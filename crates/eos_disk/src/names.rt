@@ -1,11 +1,12 @@
 //! What the name of a file in a partition's folder says.
 
-ghost use Rattle.std.specs.Prelude.{◌≡◌, ◌≤◌, ◌==◌, ◌&&◌, true, pos, length, option_map};
+ghost use Rattle.std.specs.Prelude.{◌≡◌, ◌==◌, ◌&&◌, pos, length, option_map};
 ghost use Rattle.std.specs.Char.{is_ascii_digit};
 ghost use Rattle.std.specs.List.{list_all};
-ghost use Rattle.std.specs.Str.Parse.{digits_value};
 ghost use Rattle.eos_disk.specs.Names.{base_in, form_in, file_in_name};
 ghost use Rattle.eos_disk.specs.Paths.{ending_of};
+
+use eos_base::{are_digits, value_of_digits};
 
 /// How many digits the name of a segment has before its ending.
 const DIGITS: usize = 20;
@@ -78,23 +79,4 @@ fn are_base_digits(text: &[u8]) -> bool
     ensures { result ≡ (length text.now == 20 && list_all is_ascii_digit text.now) }
 {
     text.len() == DIGITS && are_digits(text)
-}
-
-fn are_digits(text: &[u8]) -> bool
-    ensures { result ≡ list_all is_ascii_digit text.now }
-{
-    text.iter().all(|byte| byte.is_ascii_digit())
-}
-
-/// The number that the digits write.
-fn value_of_digits(text: &[u8]) -> u128
-    requires digits { list_all is_ascii_digit text.now ≡ true }
-    requires short { length text.now ≤ DIGITS }
-    ensures { result ≡ digits_value 10 text.now }
-{
-    let mut value = 0u128;
-    for byte in text {
-        value = value * 10 + u128::from(*byte - b'0');
-    }
-    value
 }

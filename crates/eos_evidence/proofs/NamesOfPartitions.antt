@@ -1,10 +1,8 @@
 -- What the name of a partition reads as.
-use Rattle.std.proofs.Common.{◌≡◌, ℕ, suc, ◌-◌, ◌<◌, ◌≤◌, ◌^◌, List, [], ◌∷◌, ◌++◌, Bool, true, false, ◌||◌, nat_lt, None, Some, length, get_or, take, drop, refl, ap, sym, ◌∙◌, arith, drop-cons, take-append-drop, length-drop}
-use Rattle.std.proofs.lemmas.Bool.Decides.{nat_tests}
+use Rattle.std.proofs.Common.{◌≡◌, ℕ, suc, ◌-◌, ◌<◌, ◌≤◌, List, [], ◌∷◌, ◌++◌, Bool, true, false, ◌||◌, None, Some, length, get_or, take, drop, refl, ap, sym, ◌∙◌, arith, drop-cons, take-append-drop, length-drop}
 use Rattle.std.proofs.lemmas.List.{take_all}
 use Rattle.std.specs.List.{list_any}
-use Rattle.std.specs.Str.Parse.{digits_value}
-use Rattle.eos_evidence.specs.PartitionNames.{is_hyphen, last_split, is_numeral, number_of}
+use Rattle.eos_evidence.specs.PartitionNames.{is_hyphen, last_split}
 
 no_first : (a b : Bool) → (a || b) ≡ false → a ≡ false
 no_first true b h = h
@@ -34,19 +32,3 @@ split_at name at above within hyphen none =
     let whole : name ≡ take k name ++ 45 ∷ drop at name = sym (take-append-drop k name) ∙ ap (λ l. take k name ++ l) rest in
     let all : take (length name - at) (drop at name) ≡ drop at name = take_all _ _ (omega (arith, length-drop at name)) in
     ap (λ l. Some (take k name, l)) all ∙ sym (ap last_split whole ∙ split_there (take k name) (drop at name) none)
-
-pub number_no : (text : List ℕ) → is_numeral text ≡ false → number_of text ≡ None
-unfolding number_of
-number_no text no_numeral = rw no_numeral refl
-
-pub number_past : (text : List ℕ) → is_numeral text ≡ true → 2 ^ 31 ≤ digits_value 10 text → number_of text ≡ None
-unfolding number_of
-number_past text numeral past =
-    let large : nat_lt (digits_value 10 text) (2 ^ 31) ≡ false = grind (arith, nat_tests, past) in
-    rw (numeral, large) refl
-
-pub number_is : (text : List ℕ) → is_numeral text ≡ true → digits_value 10 text < 2 ^ 31 → number_of text ≡ Some (digits_value 10 text)
-unfolding number_of
-number_is text numeral small =
-    let fits : nat_lt (digits_value 10 text) (2 ^ 31) ≡ true = grind (arith, nat_tests, small) in
-    rw (numeral, fits) refl

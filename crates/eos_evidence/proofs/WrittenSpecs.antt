@@ -8,8 +8,10 @@ use Rattle.std.proofs.lemmas.Bool.Decides.{nat_tests}
 use Rattle.std.proofs.lemmas.Fmt.{decimal_by_steps, decimal_digit, decimal_is_IsNumeral, decimal_nonempty, length-decimal-le, first_decimal}
 use Rattle.std.proofs.lemmas.Str.{IsUtf8-from_ascii}
 use Rattle.eos_evidence.specs.Topics.{is_topic_byte, has_topic_length, is_dots, is_topic}
-use Rattle.eos_evidence.specs.PartitionNames.{is_hyphen, is_numeral, number_of, partition_of}
-use Rattle.eos_evidence.proofs.NamesOfPartitions.{split_there, number_is}
+use Rattle.eos_base.specs.Decimals.{is_numeral, number_below}
+use Rattle.eos_base.proofs.PlainNumbers.{number_is}
+use Rattle.eos_evidence.specs.PartitionNames.{is_hyphen, partition_of}
+use Rattle.eos_evidence.proofs.NamesOfPartitions.{split_there}
 
 -- ---- names
 
@@ -49,13 +51,13 @@ lead (suc n) h =
     let first : 48 < get_or (decimal (suc n)) 0 0 = first_decimal (suc n) (omega arith) (omega arith) in
     grind (arith, nat_tests, first)
 
-number_back : (n : ℕ) → n < 2 ^ 31 → number_of (decimal n) ≡ Some n
+number_back : (n : ℕ) → n < 2 ^ 31 → number_below (2 ^ 31) (decimal n) ≡ Some n
 number_back n h =
     let value : digits_value 10 (decimal n) ≡ n = (decimal_is_IsNumeral n (omega arith)).1 in
     let some : nat_lt 0 (length (decimal n)) ≡ true = grind (arith, nat_tests, decimal_nonempty n (omega arith)) in
-    let few : nat_le (length (decimal n)) 10 ≡ true = grind (arith, nat_tests, length-decimal-le 10 n (omega arith) (omega arith) (omega arith)) in
+    let few : nat_le (length (decimal n)) 19 ≡ true = grind (arith, nat_tests, length-decimal-le 10 n (omega arith) (omega arith) (omega arith)) in
     let numeral : is_numeral (decimal n) ≡ true = rw (some, few, digits n (omega arith)) (lead n h) in
-    number_is (decimal n) numeral (omega (arith, value)) ∙ ap Some value
+    number_is (2 ^ 31) (decimal n) numeral (omega (arith, value)) ∙ ap Some value
 
 pub name_back : (topic : List ℕ) (n : ℕ) → n < 2 ^ 31 → partition_of (topic ++ 45 ∷ decimal n) ≡ Some (topic, pos n)
 name_back topic n h = rw (split_there topic (decimal n) (no_hyphen (decimal n) (digits n (omega arith))), number_back n h) refl

@@ -1,10 +1,12 @@
 //! An application: its consumer group, and the topics that it reads and writes (KIP-447).
 
-ghost use Rattle.std.specs.Prelude.{◌≡◌, string_bytes};
+ghost use Rattle.std.specs.Prelude.{◌≡◌, string_bytes, IfOk};
+ghost use Rattle.eos_evidence.specs.SpecFields.{outputs_of};
 
-use crate::topics::Topics;
+use crate::topics::{Topics, push_topics};
+use bytes::Bytes;
 use eos_base::Listed;
-use std::alloc::AllocError;
+use std::alloc::{AllocError, Global};
 use std::marker::Model;
 
 /// The id of a consumer group: any text. Contracts see it as its bytes.
@@ -84,3 +86,17 @@ pub struct App {
 
 /// Applications, in order.
 pub type Apps = Listed<App>;
+
+/// The topics that the applications write, one application after the other.
+///
+/// # Errors
+/// Want of memory alone.
+pub fn outputs_of(alloc: Global, apps: &[App]) -> Result<Vec<Bytes>, AllocError>
+    ensures { IfOk result (λ topics. topics.items ≡ outputs_of apps.now) }
+{
+    let mut topics = Vec::new(alloc);
+    for app in apps {
+        push_topics(&mut topics, app.outputs.as_slice())?;
+    }
+    Ok(topics)
+}

@@ -2,13 +2,13 @@
 //! memory is refused to the set, each name is looked for among those after it, which is slower and takes
 //! none. So no test is left undecided.
 
-ghost use Rattle.std.specs.Prelude.{◌≡◌, ◌++◌, ◌&&◌, IfOk, OnOk, bytes_eq};
+ghost use Rattle.std.specs.Prelude.{◌≡◌, ◌++◌, ◌&&◌, IfOk, bytes_eq};
 ghost use Rattle.std.specs.List.{list_all, list_any};
 ghost use Rattle.eos_evidence.specs.SpecFields.{is_own_topic, is_legal_app, are_legal_apps, outputs_of, groups_of};
 ghost use Rattle.eos_evidence.specs.Topics.{is_among, are_unequal};
 
-use crate::application::{App, GroupId};
-use crate::topics::{is_internal_topic, is_one_of, is_topic_name};
+use crate::application::{App, GroupId, outputs_of};
+use crate::topics::{is_internal_topic, is_one_of, is_topic_name, push_topics};
 use bytes::Bytes;
 use std::alloc::{AllocError, Global};
 use std::collections::BTreeSet;
@@ -59,7 +59,7 @@ fn are_topics_unequal_by_set(alloc: Global, app: &App) -> Result<bool, AllocErro
     ensures { IfOk result (λ unequal. unequal ≡ are_unequal (app.now.sources ++ app.now.outputs)) }
 {
     let mut topics = app.sources.as_slice().to_vec(alloc)?;
-    push_all(&mut topics, app.outputs.as_slice())?;
+    push_topics(&mut topics, app.outputs.as_slice())?;
     are_names_unequal(alloc, topics)
 }
 
@@ -121,11 +121,7 @@ fn are_outputs_unequal(alloc: Global, apps: &[App]) -> bool
 fn are_outputs_unequal_by_set(alloc: Global, apps: &[App]) -> Result<bool, AllocError>
     ensures { IfOk result (λ unequal. unequal ≡ are_unequal (outputs_of apps.now)) }
 {
-    let mut outputs = Vec::new(alloc);
-    for app in apps {
-        push_all(&mut outputs, app.outputs.as_slice())?;
-    }
-    are_names_unequal(alloc, outputs)
+    are_names_unequal(alloc, outputs_of(alloc, apps)?)
 }
 
 fn are_outputs_unequal_in_turn(apps: &[App]) -> bool
@@ -158,16 +154,6 @@ fn is_output(topic: &Bytes, apps: &[App]) -> bool
 {
     apps.iter()
         .any(|app| is_one_of(topic, app.outputs.as_slice()))
-}
-
-/// Puts all these names at the end.
-fn push_all(names: &mut Vec<Bytes>, others: &[Bytes]) -> Result<(), AllocError>
-    ensures { OnOk result (names.new.items ≡ names.old.items ++ others.now) }
-{
-    for name in others {
-        names.push(name.clone()?)?;
-    }
-    Ok(())
 }
 
 /// Whether no name stands twice.

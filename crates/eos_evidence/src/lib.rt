@@ -17,7 +17,7 @@ mod segment_reader;
 mod spec;
 mod topics;
 
-pub use application::{App, Apps, GroupId};
+pub use application::{App, Apps, GroupId, outputs_of};
 pub use builder::EvidenceBuilder;
 pub use ends::{End, Ends};
 pub use evidence::{Evidence, MAX_SEGMENTS};
@@ -26,6 +26,6 @@ pub use manifest_reader::parse_spec;
 pub use manifest_writer::spec_text;
 pub use partition::Partition;
 pub use segment::Segment;
-pub use segment_reader::{MAX_SEGMENT_BYTES, read_segment};
+pub use segment_reader::{MAX_SEGMENT_BYTES, read_segment, read_some};
 pub use spec::{MAX_APPS, MAX_PARTITIONS, Spec};
-pub use topics::Topics;
+pub use topics::{Topics, is_internal_topic, is_topic_name, push_topics};

@@ -62,8 +62,12 @@ fn read_up_to<R: Read>(alloc: Global, reader: &mut R, limit: usize) -> Result<Ve
     Err(ReadFault::Limit)
 }
 
-/// One read, tried again where it is interrupted.
-fn read_some<R: Read>(reader: &mut R, room: &mut [u8]) -> Result<usize, ReadFault>
+/// One read into the room, of which it fills as many bytes as it says; 0 is the end. An interrupted read is tried again, up
+/// to 1,000 times in a row.
+///
+/// # Errors
+/// Read alone; then no byte was taken.
+pub fn read_some<R: Read>(reader: &mut R, room: &mut [u8]) -> Result<usize, ReadFault>
     requires { 0 < length room.old }
     ensures within { IfOk result (λ count. count ≤ length room.new) }
     ensures ok { IfOk result (λ count.

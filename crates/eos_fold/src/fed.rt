@@ -1,9 +1,7 @@
 //! A walk along a segment that is fed with the segment's bytes.
 
-ghost use Rattle.std.specs.Prelude.{◌≡◌, ◌≤◌, ◌+◌, ◌++◌, ◌∷◌, [], ℕ, pos, List, length, drop, Err, Result, IfOk, MatchResult};
+ghost use Rattle.std.specs.Prelude.{◌≡◌, ◌≤◌, ◌+◌, ◌++◌, ◌∷◌, [], ℕ, pos, List, length, drop, IfOk, MatchResult};
 ghost use Rattle.eos_batch.specs.declared.batch.Batch.{Batch};
-ghost use Rattle.eos_batch.specs.declared.fault.BatchFault.{BatchFault};
-ghost use Rattle.eos_batch.specs.Answers.{Fails};
 ghost use Rattle.eos_batch.specs.Segment.{Splits};
 ghost use Rattle.eos_touch.specs.declared.fault.PartitionFaultKind.TheVariants.{BadBatch};
 ghost use Rattle.eos_fold.specs.ChainFaults.{IsLeastFault};
@@ -13,7 +11,7 @@ ghost use Rattle.eos_fold.specs.steps.Walks.{HasPassed};
 
 use crate::chain_walk::{Walk, unnamed};
 use crate::one_segment::Chain;
-use crate::{ByteFold, read_head};
+use crate::{ByteFold, read_head, refusal};
 use bytes::Bytes;
 use eos_batch::BatchFault;
 use eos_touch::{PartitionFault, PartitionFaultKind};
@@ -38,16 +36,6 @@ pub(crate) struct FedWalk {
     place: u64,
     /// The least fault, once it is found.
     fault: Option<PartitionFault>,
-}
-
-/// What reading refuses, unless it is for want of memory.
-fn of_the_bytes(fault: BatchFault) -> Result<BatchFault, AllocError>
-    ensures { (read : Result (Batch × ℕ) BatchFault) → Fails fault read → IfOk result (λ refusal. read ≡ Err refusal) }
-{
-    match fault {
-        BatchFault::OutOfMemory => Err(AllocError),
-        refusal => Ok(refusal),
-    }
 }
 
 /// The fault of bytes at this place of a segment that are no batch.
@@ -99,7 +87,7 @@ fn pass_next(
             Ok(Step::Passed(head.size))
         }
         Err(fault) => {
-            let batch = of_the_bytes(fault)?;
+            let batch = refusal(fault)?;
             if batch == BatchFault::Truncated {
                 return Ok(Step::Cut);
             }

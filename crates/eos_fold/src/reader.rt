@@ -1,43 +1,18 @@
 //! How a reader's bytes come in, with one buffer for all chunks. Nothing says that an input ends, so reading stops at the
 //! limit of a segment and says so.
 
-ghost use Rattle.std.specs.Prelude.{◌≡◌, ◌<◌, ◌≤◌, ◌+◌, ℕ, List, [], Ok, Err, IfOk, OnOk, OnErr, take, length};
-ghost use Rattle.std.specs.Io.KnownBytes.{Consumes, IsAtEnd, Keeps};
+ghost use Rattle.std.specs.Prelude.{◌≡◌, ◌≤◌, ◌+◌, ℕ, List, [], Err, IfOk, OnOk, OnErr, length};
+ghost use Rattle.std.specs.Io.KnownBytes.{Consumes, IsAtEnd};
 ghost use Rattle.eos_evidence.specs.Reading.{Takes, TakesAtMost};
 
 use crate::feed::Feed;
 use crate::fold::ByteFold;
-use eos_evidence::{MAX_SEGMENT_BYTES, ReadFault};
+use eos_evidence::{MAX_SEGMENT_BYTES, ReadFault, read_some};
 use std::alloc::Global;
-use std::io::{ErrorKind, Read};
+use std::io::Read;
 
 /// How many bytes are asked for at once.
 const CHUNK: usize = 0x4_0000;
-
-/// How often in a row an interrupted read is tried.
-const TRIES: u32 = 1000;
-
-/// One read, tried again where it is interrupted.
-fn read_some<R: Read>(reader: &mut R, room: &mut [u8]) -> Result<usize, ReadFault>
-    requires { 0 < length room.old }
-    ensures within { IfOk result (λ count. count ≤ length room.new) }
-    ensures ok { IfOk result (λ count. Consumes (R.remaining reader.old) (R.remaining reader.new) (take count room.new)) }
-    ensures end { result ≡ Ok 0 → IsAtEnd (R.remaining reader.new) }
-    ensures err { OnErr result (Keeps (R.remaining reader.old) (R.remaining reader.new)) }
-    ensures only { OnErr result (result ≡ Err ReadFault.Read) }
-{
-    for _ in 0..TRIES {
-        match reader.read(room) {
-            Ok(count) => return Ok(count),
-            Err(e) => {
-                if e.kind() != ErrorKind::Interrupted {
-                    return Err(ReadFault::Read);
-                }
-            }
-        }
-    }
-    Err(ReadFault::Read)
-}
 
 /// Feeds a fold with all bytes that a reader has left, by a chunk of room.
 fn read_by<F: ByteFold + Drop, R: Read>(

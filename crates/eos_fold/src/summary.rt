@@ -2,19 +2,20 @@
 
 ghost use Rattle.std.specs.Prelude.{◌≡◌, ◌≢◌, ◌+◌, ◌<◌, ◌≤◌, [], ◌∷◌, ◌++◌, List, length, IfOk, IfErr, OnOk, MatchOption, not, true, false};
 ghost use Rattle.eos_batch.specs.declared.batch.Batch.{Batch};
-ghost use Rattle.eos_batch.specs.declared.fault.BatchFault.TheVariants.{OutOfMemory};
 ghost use Rattle.eos_evidence.specs.declared.segment.Segment.{Segment};
 ghost use Rattle.std.specs.Option.{option_to_list};
 ghost use Rattle.eos_evidence.specs.Topics.{is_internal};
 ghost use Rattle.eos_fold.specs.declared.stop.Stop.TheVariants.{AtEnd};
+ghost use Rattle.eos_fold.specs.Fronts.{base_of};
 ghost use Rattle.eos_fold.specs.Sums.{IsSummaryOf, IsSummed, IsFit, OneTopic, SameSum};
 ghost use Rattle.eos_fold.specs.steps.Sums.{HasWalked, HasStopped};
 
 use crate::BatchSummary;
 use crate::stop::Stop;
+use crate::walk::refusal;
 use bytes::Bytes;
-use eos_batch::{BatchFault, Marker};
-use eos_evidence::Segment;
+use eos_batch::Marker;
+use eos_evidence::{Segment, is_internal_topic};
 use eos_wire::are_bytes;
 use std::alloc::{AllocError, Global};
 
@@ -32,19 +33,11 @@ pub struct Summary {
     pub(crate) run: BatchSummary,
 }
 
-/// What reading refuses, unless it is for want of memory.
-fn refusal(fault: BatchFault) -> Result<BatchFault, AllocError>
-    ensures same { IfOk result (λ refusal. refusal ≡ fault) }
-    ensures real { IfOk result (λ refusal. refusal ≢ OutOfMemory) }
-{
-    match fault {
-        BatchFault::OutOfMemory => Err(AllocError),
-        refusal => Ok(refusal),
-    }
-}
-
 /// Puts an end marker at the end, if there is one.
-fn push_marker(markers: &mut Vec<Marker>, marker: Option<Marker>) -> Result<(), AllocError>
+///
+/// # Errors
+/// Want of memory alone.
+pub fn push_marker(markers: &mut Vec<Marker>, marker: Option<Marker>) -> Result<(), AllocError>
     ensures { OnOk result (markers.new.items ≡ markers.old.items ++ option_to_list marker) }
 {
     let Some(marker) = marker else {
@@ -113,7 +106,7 @@ fn walk(alloc: Global, summary: &mut Summary, bytes: &Bytes) -> Result<(), Alloc
 pub fn is_checked(topic: &[u8]) -> bool
     ensures { result ≡ not (is_internal topic.now) }
 {
-    topic != b"__consumer_offsets".as_slice() && topic != b"__transaction_state".as_slice()
+    !is_internal_topic(topic)
 }
 
 /// What one segment says of its partition.
@@ -173,7 +166,7 @@ fn join_next(
 }
 
 /// Whether a front uses all bytes.
-fn is_at_end(stop: Stop) -> bool
+pub fn is_at_end(stop: Stop) -> bool
     ensures at_end { result ≡ true → stop ≡ AtEnd }
     ensures other { result ≡ false → stop ≢ AtEnd }
 {
@@ -220,4 +213,11 @@ impl Summary {
         }
         Ok(before)
     }
+}
+
+/// A segment's name, the offset of its first record.
+pub fn begin_of(segment: &Segment) -> u64
+    ensures { result ≡ base_of segment.now }
+{
+    segment.base.unsigned_abs()
 }

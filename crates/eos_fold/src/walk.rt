@@ -1,7 +1,9 @@
 //! One batch after the other, each tested as `decode_batch` tests it, without its values.
 
-ghost use Rattle.std.specs.Prelude.{◌≡◌, ◌≤◌, ◌<◌, ◌+◌, ◌^◌, length, drop, Ok, IfOk, IfErr, OnOk};
+ghost use Rattle.std.specs.Prelude.{◌≡◌, ◌≢◌, ◌≤◌, ◌<◌, ◌+◌, ◌^◌, ℕ, length, drop, Result, Ok, Err, IfOk, IfErr, OnOk};
 ghost use Rattle.eos_batch.specs.declared.batch.Batch.{Batch};
+ghost use Rattle.eos_batch.specs.declared.fault.BatchFault.{BatchFault};
+ghost use Rattle.eos_batch.specs.declared.fault.BatchFault.TheVariants.{OutOfMemory};
 ghost use Rattle.eos_batch.specs.Answers.{Fails};
 ghost use Rattle.eos_batch.specs.Reading.{batch_at};
 ghost use Rattle.eos_batch.specs.Heads.{head_with, head_of};
@@ -14,7 +16,7 @@ use eos_batch::{
     Batch, BatchFault, BatchHead, Marker, Opened, decode_batch, open_batch, pass_record,
     pass_records, test_data,
 };
-use std::alloc::Global;
+use std::alloc::{AllocError, Global};
 
 /// Puts down where each of a batch's records stands.
 fn push_entries(
@@ -45,7 +47,7 @@ fn push_entries(
 }
 
 /// A batch's head, with the number of its records and bytes and its end marker.
-fn head_with(batch: &Batch, count: u32, size: usize, marker: Option<Marker>) -> BatchHead
+pub fn head_with(batch: &Batch, count: u32, size: usize, marker: Option<Marker>) -> BatchHead
     ensures { result ≡ head_with batch.now count size marker }
 {
     BatchHead {
@@ -118,4 +120,19 @@ pub fn read_head(alloc: Global, bytes: &Bytes, at: usize) -> Result<BatchHead, B
     pass_records(bytes, opened.begin, opened.end, opened.count)?;
     test_data(&opened.batch)?;
     Ok(head_with(&opened.batch, opened.count, opened.end - at, None))
+}
+
+/// What reading refuses, unless it is for want of memory.
+///
+/// # Errors
+/// Want of memory alone.
+pub fn refusal(fault: BatchFault) -> Result<BatchFault, AllocError>
+    ensures same { IfOk result (λ refusal. refusal ≡ fault) }
+    ensures real { IfOk result (λ refusal. refusal ≢ OutOfMemory) }
+    ensures read { (read : Result (Batch × ℕ) BatchFault) → Fails fault read → IfOk result (λ refusal. read ≡ Err refusal) }
+{
+    match fault {
+        BatchFault::OutOfMemory => Err(AllocError),
+        refusal => Ok(refusal),
+    }
 }

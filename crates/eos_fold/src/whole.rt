@@ -58,7 +58,7 @@ pub(crate) fn of_all(alloc: Global, topic: &Bytes, run: Option<Named>) -> (Vec<S
 }
 
 /// Whether a front ends where its log was declared to end.
-fn is_declared(next: u64, end: i64) -> bool
+pub fn is_declared(next: u64, end: i64) -> bool
     ensures { result ≡ int_eq (pos next) end }
 {
     end >= 0 && end.unsigned_abs() == next

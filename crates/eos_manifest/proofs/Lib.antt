@@ -1,6 +1,5 @@
 pub mod ItemsOfWords
 pub mod JavaHashes
-pub mod PlainNumbers
 pub mod SegmentFronts
 pub mod TextPieces
 pub mod TopicCounts

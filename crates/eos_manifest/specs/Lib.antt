@@ -6,5 +6,4 @@ pub mod Head
 pub mod Lines
 pub mod Listing
 pub mod Manifests
-pub mod Numbers
 pub mod steps

@@ -4,7 +4,7 @@ use Rattle.std.specs.Prelude.{ℕ, ◌+◌, ◌-◌, ◌^◌, ◌&&◌, ◌==◌
 use Rattle.eos_evidence.specs.declared.ends.End.{End}
 use Rattle.eos_evidence.specs.Topics.{is_topic}
 use Rattle.eos_manifest.specs.Divided.{last_split, lines_of}
-use Rattle.eos_manifest.specs.Numbers.{number_below}
+use Rattle.eos_base.specs.Decimals.{number_below}
 
 -- a topic's name and a number of 31 bits
 abbrev pub name_in : List ℕ → List ℕ → Option (List ℕ × ℤ)

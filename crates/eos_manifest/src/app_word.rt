@@ -4,10 +4,9 @@ ghost use Rattle.std.specs.Prelude.{◌≡◌, IfOk, option_map, string_bytes};
 ghost use Rattle.eos_manifest.specs.AppWords.{topics_in, group_in, app_with, app_in_word};
 
 use crate::divided::{first_piece, split_at_last};
-use crate::topic_name::is_topic_name;
 use bytes::Bytes;
 use eos_base::Listed;
-use eos_evidence::{App, GroupId};
+use eos_evidence::{App, GroupId, is_topic_name};
 use std::alloc::{AllocError, Global};
 use std::str;
 

@@ -4,8 +4,8 @@ ghost use Rattle.std.specs.Prelude.{◌≡◌, IfOk, option_map};
 ghost use Rattle.eos_manifest.specs.Lines.{name_in, partition_in_name};
 
 use crate::divided::split_at_last;
-use crate::number::read_partition;
-use crate::topic_name::is_topic_name;
+use eos_base::read_partition;
+use eos_evidence::is_topic_name;
 
 /// A topic and a partition's number, where both may be such.
 pub(crate) fn read_name_in<'a>(topic: &'a [u8], number: &[u8]) -> Option<(&'a [u8], i32)>

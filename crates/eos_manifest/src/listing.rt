@@ -1,14 +1,13 @@
 //! Which partitions the transaction log lists.
 
 ghost use Rattle.std.specs.Prelude.{◌≡◌, ◌++◌, IfOk, OnOk, flat_map};
-ghost use Rattle.eos_txnlog.specs.PartitionSets.{names_in_topic, names_of};
 ghost use Rattle.eos_txnlog.specs.Reading.{read_key, read_value};
 ghost use Rattle.eos_manifest.specs.Listing.{names_said, names_under, names_in_record, names_in_batch, IsListing};
 
 use bytes::Bytes;
-use eos_base::{PartitionName, RecordFault};
+use eos_base::PartitionName;
 use eos_batch::{Batch, Record, decode_segment};
-use eos_txnlog::{TopicPartitions, TxnValue, decode_key, decode_value};
+use eos_txnlog::{push_names, read_id, read_state};
 use std::alloc::{AllocError, Global};
 
 /// The partitions that the records of a segment of the transaction log list, as often as they list them: those of its batches up
@@ -103,52 +102,7 @@ fn push_of_state(
     ensures { OnOk result (names.new.items ≡ names.old.items ++ names_said (read_value value.now)) }
 {
     match read_state(alloc, value)? {
-        Ok(state) => push_of_topics(names, state.partitions.as_slice()),
+        Ok(state) => push_names(names, state.partitions.as_slice()),
         Err(_) => Ok(()),
     }
-}
-
-fn read_id(alloc: Global, key: &Bytes) -> Result<Result<Option<Bytes>, RecordFault>, AllocError>
-    ensures { IfOk result (λ read. read ≡ read_key key.now) }
-{
-    match decode_key(alloc, key) {
-        Ok(id) => Ok(Ok(id)),
-        Err(RecordFault::OutOfMemory) => Err(AllocError),
-        Err(fault) => Ok(Err(fault)),
-    }
-}
-
-fn read_state(alloc: Global, value: &Bytes) -> Result<Result<TxnValue, RecordFault>, AllocError>
-    ensures { IfOk result (λ read. read ≡ read_value value.now) }
-{
-    match decode_value(alloc, value) {
-        Ok(value) => Ok(Ok(value)),
-        Err(RecordFault::OutOfMemory) => Err(AllocError),
-        Err(fault) => Ok(Err(fault)),
-    }
-}
-
-fn push_of_topics(
-    names: &mut Vec<PartitionName>,
-    topics: &[TopicPartitions],
-) -> Result<(), AllocError>
-    ensures { OnOk result (names.new.items ≡ names.old.items ++ names_of topics.now) }
-{
-    for topic in topics {
-        push_of_topic(names, topic)?;
-    }
-    Ok(())
-}
-
-fn push_of_topic(names: &mut Vec<PartitionName>, t: &TopicPartitions) -> Result<(), AllocError>
-    ensures { OnOk result (names.new.items ≡ names.old.items ++ names_in_topic t.now) }
-{
-    for number in t.numbers.as_slice() {
-        let topic = t.topic.clone()?;
-        names.push(PartitionName {
-            topic,
-            partition: *number,
-        })?;
-    }
-    Ok(())
 }

@@ -8,13 +8,13 @@ ghost use Rattle.eos_base.specs.PartitionNames.{name_cmp};
 ghost use Rattle.eos_base.specs.declared.partition_name.PartitionName.{PartitionName};
 ghost use Rattle.eos_evidence.specs.declared.fault.SpecFault.{SpecFault};
 ghost use Rattle.eos_evidence.specs.SpecFields.{accepted};
-ghost use Rattle.eos_evidence.specs.Topics.{is_among, is_internal};
+ghost use Rattle.eos_evidence.specs.Topics.{is_among};
 ghost use Rattle.eos_manifest.specs.Manifests.{is_judged, is_named, is_wanted, name_of, has_end, first_without, parts_for};
 ghost use Rattle.eos_manifest.specs.declared.manifest.ManifestFault.TheVariants.{OutOfMemory};
 
 use bytes::Bytes;
 use eos_base::{Listed, PartitionName, holds};
-use eos_evidence::{App, Apps, End, Spec, SpecFault};
+use eos_evidence::{App, Apps, End, Spec, SpecFault, is_internal_topic};
 use std::alloc::{AllocError, AllocFailed, Global};
 
 /// Why there is no manifest.
@@ -86,12 +86,6 @@ fn is_named(apps: &[App], topic: &[u8]) -> bool
     apps.iter().any(|app| is_named_by(app, topic))
 }
 
-fn is_internal_topic(topic: &[u8]) -> bool
-    ensures { result ≡ is_internal topic.now }
-{
-    topic == b"__consumer_offsets".as_slice() || topic == b"__transaction_state".as_slice()
-}
-
 /// Whether this application reads or writes the topic.
 fn is_named_by(app: &App, topic: &[u8]) -> bool
     ensures { result ≡ (is_among topic.now app.now.sources || is_among topic.now app.now.outputs) }
@@ -118,7 +112,7 @@ fn first_without<'a>(ends: &[End], names: &'a [PartitionName]) -> Option<&'a Par
 }
 
 /// Whether one of the ends is this partition's.
-fn has_end(ends: &[End], name: &PartitionName) -> bool
+pub fn has_end(ends: &[End], name: &PartitionName) -> bool
     ensures { result ≡ has_end ends.now name.now }
 {
     ends.iter().any(|end| is_of(end, name))

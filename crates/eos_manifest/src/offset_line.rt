@@ -7,8 +7,8 @@ ghost use Rattle.eos_manifest.specs.declared.offset_line.EndsFault.TheVariants.{
 
 use crate::divided::{after_mark, first_piece, split_at_last};
 use crate::folder_name::read_name_in;
-use crate::number::read_offset;
 use bytes::Bytes;
+use eos_base::read_offset;
 use eos_evidence::End;
 use std::alloc::{AllocError, AllocFailed, Global};
 

@@ -2,6 +2,7 @@
 //! keys and values as bytes and as values, and which record of a transactional id may follow which.
 #![tactic(auto)]
 
+mod apart;
 mod decision;
 mod field;
 mod form;
@@ -15,10 +16,11 @@ mod step;
 mod value;
 mod writing;
 
+pub use apart::{read_id, read_state};
 pub use decision::Decision;
 pub use eos_base::RecordFault;
 pub use key::{decode_key, encode_key};
-pub use partition_sets::{is_same_set, lists};
+pub use partition_sets::{is_same_set, lists, push_names};
 pub use partitions::{Numbers, Partitions, TopicPartitions};
 pub use reading::decode_value;
 pub use skip::is_skipped;

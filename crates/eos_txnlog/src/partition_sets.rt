@@ -28,8 +28,7 @@ pub fn lists(partitions: &[TopicPartitions], topic: &[u8], number: i32) -> bool
     false
 }
 
-/// Appends the names of a topic's partitions.
-fn push_names(names: &mut Vec<PartitionName>, t: &TopicPartitions) -> Result<(), AllocError>
+fn push_of_topic(names: &mut Vec<PartitionName>, t: &TopicPartitions) -> Result<(), AllocError>
     ensures { OnOk result (names.new.items ≡ names.old.items ++ names_in_topic t.now) }
 {
     for number in t.numbers.as_slice() {
@@ -42,13 +41,27 @@ fn push_names(names: &mut Vec<PartitionName>, t: &TopicPartitions) -> Result<(),
     Ok(())
 }
 
+/// Appends the names of a transaction's partitions, as often as they are listed.
+///
+/// # Errors
+/// Want of memory alone.
+pub fn push_names(
+    names: &mut Vec<PartitionName>,
+    partitions: &[TopicPartitions],
+) -> Result<(), AllocError>
+    ensures { OnOk result (names.new.items ≡ names.old.items ++ names_of partitions.now) }
+{
+    for topic in partitions {
+        push_of_topic(names, topic)?;
+    }
+    Ok(())
+}
+
 fn names_of(alloc: Global, partitions: &[TopicPartitions]) -> Result<Vec<PartitionName>, AllocError>
     ensures { IfOk result (λ names. names.items ≡ names_of partitions.now) }
 {
     let mut names = Vec::new(alloc);
-    for t in partitions {
-        push_names(&mut names, t)?;
-    }
+    push_names(&mut names, partitions)?;
     Ok(names)
 }
 

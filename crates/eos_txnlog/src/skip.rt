@@ -2,18 +2,11 @@
 
 ghost use Rattle.std.specs.Prelude.{◌≡◌, IfOk, option_map};
 ghost use Rattle.std.specs.Option.{option_copied};
-ghost use Rattle.eos_txnlog.specs.Skips.{means_nothing, says_the_same, is_skipped};
+ghost use Rattle.eos_txnlog.specs.Skips.{says_the_same, is_skipped};
 
 use crate::partition_sets::is_same_set;
-use crate::status::Status;
 use crate::value::TxnValue;
 use std::alloc::{AllocError, Global};
-
-fn means_nothing(status: Status) -> bool
-    ensures { result ≡ means_nothing status }
-{
-    matches!(status, Status::Dead | Status::PrepareEpochFence)
-}
 
 fn says_the_same(alloc: Global, before: &TxnValue, after: &TxnValue) -> Result<bool, AllocError>
     ensures { IfOk result (λ same. same ≡ says_the_same before.now after.now) }
@@ -46,7 +39,7 @@ pub fn is_skipped(
     let Some(after) = next else {
         return Ok(matches!(last, Some(None)));
     };
-    if means_nothing(after.status) {
+    if after.status.means_nothing() {
         return Ok(true);
     }
     match last {

@@ -1,7 +1,8 @@
 //! Where a transactional id stands.
 
-ghost use Rattle.std.specs.Prelude.{◌≡◌};
+ghost use Rattle.std.specs.Prelude.{◌≡◌, IfSome};
 ghost use Rattle.eos_txnlog.specs.Status.{status_number, status_of, is_open, is_prepare};
+ghost use Rattle.eos_txnlog.specs.Skips.{means_nothing};
 
 /// The state of a transactional id, in the order of Kafka's numbers, from 0.
 #[derive(Clone, Copy, Debug, PartialEq, Eq)]
@@ -33,9 +34,17 @@ impl Status {
         self == Status::Ongoing || self.is_prepare()
     }
 
+    /// Whether a record of this status means nothing here.
+    pub fn means_nothing(self) -> bool
+        ensures { result ≡ means_nothing self }
+    {
+        matches!(self, Status::Dead | Status::PrepareEpochFence)
+    }
+
     /// The status of a number, where it has one.
-    pub(crate) fn from_number(number: i8) -> Option<Status>
-        ensures { result ≡ status_of number }
+    pub fn from_number(number: i8) -> Option<Status>
+        ensures status { result ≡ status_of number }
+        ensures number { IfSome result (λ status. status_number status ≡ number) }
     {
         match number {
             0 => Some(Status::Empty),

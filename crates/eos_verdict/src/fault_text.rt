@@ -42,7 +42,11 @@ fn push_where(alloc: Global, out: &mut String, fault: &Fault) -> Result<(), Allo
 
 // ---- places
 
-fn push_name(
+/// Adds a label and the name of a partition.
+///
+/// # Errors
+/// Want of memory alone.
+pub fn push_name(
     alloc: Global,
     out: &mut String,
     label: &str,

@@ -15,6 +15,7 @@ mod visible_fault;
 
 pub use counts::push_counts;
 pub use details::push_details;
+pub use fault_text::push_name;
 pub use line::{push_no, text_of_fault, verdict_line};
 pub use lineage_fault::LineageFault;
 pub use log_fault::{LogFault, LogFaultKind};

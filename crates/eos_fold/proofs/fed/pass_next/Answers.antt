@@ -55,7 +55,7 @@ returns-in_default-clause-size c =
 pub returns-in_ok-byte_at-in-Err-clause-passed : goal.returns-in_ok-byte_at-in-Err-clause-passed
 returns-in_ok-byte_at-in-Err-clause-passed c = λ fed before h splits place.
     let r = drop c.args.byte c.args.buffer.now in
-    let read = c.in_ok-batch-in-Err.ensures _ c.in-Err.ensures.err in
+    let read = c.in_ok-batch-in-Err.ensures.read _ c.in-Err.ensures.err in
     let at = c.in_ok-byte_at-in-Err.field-0 in
     let ne : c.in_ok-batch-in-Err.batch ≢ faults.Truncated = search rules in
     bad_stays fed before r c.in_ok-batch-in-Err.batch at c.bad_batch.result splits h.continuous h.each

@@ -1,6 +1,6 @@
-use Rattle.std.proofs.Common.{◌≡◌, ◌++◌, take, map}
-use Rattle.eos_txnlog.specs.PartitionSets.{name_of}
+use Rattle.std.proofs.Common.{◌≡◌, ◌++◌, take}
+use Rattle.eos_txnlog.specs.PartitionSets.{names_of}
 use Rattle.eos_txnlog.proofs.partition_sets.push_names.Given as goal
 
-abbrev pub invariant-loop-number : goal.invariant-loop-number
-invariant-loop-number l = l.names.items ≡ l.fn.names.items ++ map (name_of l.t.topic) (take l.number-index l.t.numbers)
+abbrev pub invariant-loop-topic : goal.invariant-loop-topic
+invariant-loop-topic l = l.names.items ≡ l.fn.names.items ++ names_of (take l.topic-index l.partitions)

@@ -2,7 +2,7 @@ use Rattle.std.proofs.Common.{◌≡◌, ◌<◌, ◌++◌, ℤ, List, [], ◌�
 use Rattle.std.proofs.lemmas.Int.{to_z-of_z}
 use Rattle.eos_txnlog.specs.PartitionSets.{name_of}
 use Rattle.eos_txnlog.proofs.Appended.{item_more}
-use Rattle.eos_txnlog.proofs.partition_sets.push_names.Goals as goal
+use Rattle.eos_txnlog.proofs.partition_sets.push_of_topic.Goals as goal
 
 pub loop-number-preserved : goal.loop-number-preserved
 loop-number-preserved c =

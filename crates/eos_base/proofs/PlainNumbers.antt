@@ -3,7 +3,7 @@ use Rattle.std.proofs.Common.{◌≡◌, ℕ, ◌<◌, ◌≤◌, ◌^◌, List,
 use Rattle.std.proofs.Math.Nat.{pow-le-pow_right}
 use Rattle.std.proofs.lemmas.Bool.Decides.{nat_tests}
 use Rattle.std.specs.Str.Parse.{digits_value}
-use Rattle.eos_manifest.specs.Numbers.{is_numeral, number_below}
+use Rattle.eos_base.specs.Decimals.{is_numeral, number_below}
 
 pub number_no : (limit : ℕ) (text : List ℕ) → is_numeral text ≡ false → number_below limit text ≡ None
 unfolding number_below
@@ -21,8 +21,8 @@ number_is limit text numeral small =
     let fits : nat_lt (digits_value 10 text) limit ≡ true = grind (arith, nat_tests, small) in
     rw (numeral, fits) refl
 
--- what fewer than 19 digits write
-pub few_digits : (k : ℕ) → k ≤ 18 → 10 ^ k ≤ 10 ^ 18
+-- what fewer than 20 digits write
+pub few_digits : (k : ℕ) → k ≤ 19 → 10 ^ k ≤ 10 ^ 19
 few_digits k h =
     let some : 0 < 10 = omega arith in
     pow-le-pow_right some h

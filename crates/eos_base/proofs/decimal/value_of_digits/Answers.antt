@@ -1,6 +1,6 @@
 use Rattle.std.proofs.Common.{arith}
-use Rattle.eos_manifest.proofs.PlainNumbers.{few_digits}
-use Rattle.eos_manifest.proofs.number.value_of_digits.Goals as goal
+use Rattle.eos_base.proofs.PlainNumbers.{few_digits}
+use Rattle.eos_base.proofs.decimal.value_of_digits.Goals as goal
 
 pub overflow_mul-value : goal.overflow_mul-value
 overflow_mul-value c =

@@ -1,7 +1,0 @@
--- The room keeps its length, and an interrupted read takes nothing.
-use Rattle.std.proofs.Common.{◌≡◌, length}
-use Rattle.std.specs.Io.KnownBytes.{Keeps}
-use Rattle.eos_fold.proofs.reader.read_some.Given as goal
-
-abbrev pub invariant-loop : goal.invariant-loop
-invariant-loop g l = (length l.room ≡ length l.initial.room) × Keeps (g.R.Read.remaining l.initial.reader) (g.R.Read.remaining l.reader)
