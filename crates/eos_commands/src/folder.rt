@@ -1,8 +1,6 @@
 //! The folders that are given: of which partitions they are, and which segments lie in them.
 
-ghost use Rattle.std.specs.Prelude.{◌≡◌, ◌⊎◌, ◌&&◌, [], map, bytes_eq, IfOk, IfErr, OnOk, string_bytes};
-ghost use Rattle.std.specs.Ordering.{int_eq};
-ghost use Rattle.eos_manifest.specs.Manifests.{has_end};
+ghost use Rattle.std.specs.Prelude.{◌≡◌, ◌⊎◌, [], map, IfOk, IfErr, OnOk, string_bytes};
 ghost use Rattle.eos_disk.specs.Paths.{file_path};
 ghost use Rattle.eos_disk.specs.declared.names.Form.TheVariants.{Log};
 ghost use Rattle.eos_commands.specs.Folding.{IsFolderAt};
@@ -15,7 +13,7 @@ use bytes::Bytes;
 use eos_base::PartitionName;
 use eos_disk::{ChangeFault, Disk, DiskMut, Form, bases_in, segment_path};
 use eos_evidence::{End, Segment};
-use eos_manifest::read_folder_name;
+use eos_manifest::{has_end, read_folder_name};
 use std::alloc::{AllocError, Global};
 use std::collections::BTreeSet;
 use std::path::Path;
@@ -118,18 +116,6 @@ fn find_folder<'a, D: Disk>(
         name,
         bases: bases_in(alloc, disk, path)?,
     })
-}
-
-fn has_end(ends: &[End], name: &PartitionName) -> bool
-    ensures { result ≡ has_end ends.now name.now }
-{
-    ends.iter().any(|end| is_of(end, name))
-}
-
-fn is_of(end: &End, name: &PartitionName) -> bool
-    ensures { result ≡ (bytes_eq end.now.topic name.now.topic && int_eq end.now.partition name.now.partition) }
-{
-    end.topic == name.topic && end.partition == name.partition
 }
 
 /// The partition whose folder is at this path, by the path's last part.

@@ -22,7 +22,8 @@ use Rattle.eos_verdict.specs.declared.visible_fault.VisibleFaultKind.{VisibleFau
 use Rattle.eos_verdict.specs.declared.visible_fault.VisibleFaultKind.TheVariants.{SplitGroup}
 use Rattle.eos_commits.specs.Commits.{Group, is_same, is_offsets_part}
 use Rattle.eos_commits.specs.Faults.{visible_cmp, Stands, AreInOrder}
-use Rattle.eos_commits.specs.steps.Roles.{RoleSets, source_cmp, sources_of}
+use Rattle.eos_commits.specs.Roles.{source_cmp, sources_of}
+use Rattle.eos_commits.specs.steps.Roles.{RoleSets}
 use Rattle.eos_commits.specs.steps.Walks.{Homes, home_of, is_below, entered, with_home, Judged, judge_item, at_offset, role_of, named, walk, Meets}
 use Rattle.eos_commits.proofs.RoleSearch.{found_in_order}
 use Rattle.eos_commits.proofs.RecordsLaw.{int_order}

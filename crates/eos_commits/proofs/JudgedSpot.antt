@@ -18,7 +18,8 @@ use Rattle.eos_verdict.specs.declared.visible_fault.VisibleFaultKind.TheVariants
 use Rattle.eos_commits.specs.Visible.{is_visible}
 use Rattle.eos_commits.specs.Commits.{Group, Topic, is_offsets_part, key_of, value_of, IsUnderGroup}
 use Rattle.eos_commits.specs.Kept.{is_output_part}
-use Rattle.eos_commits.specs.steps.Roles.{RoleSets, source_cmp, sources_of}
+use Rattle.eos_commits.specs.Roles.{source_cmp, sources_of}
+use Rattle.eos_commits.specs.steps.Roles.{RoleSets}
 use Rattle.eos_commits.specs.steps.Walks.{Homes, home_of, is_below, with_home, Judged, kind_of_value, judged, judge_key, judge_visible, judge_item, is_none, role_of}
 use Rattle.eos_commits.proofs.RoleSearch.{found_is_read, read_is_found}
 use Rattle.eos_commits.proofs.VisibleOrder.{kind_cmp, kind_total}

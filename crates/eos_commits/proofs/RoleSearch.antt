@@ -16,7 +16,8 @@ use Rattle.eos_commits.specs.contracts.roles.SourceRefOrd.TheImpl.{ghosts as sou
 use Rattle.eos_commits.specs.declared.roles.TopicRef.{TopicRef}
 use Rattle.eos_commits.specs.declared.roles.SourceRef.{SourceRef}
 use Rattle.eos_commits.specs.Commits.{Group, Topic}
-use Rattle.eos_commits.specs.steps.Roles.{plain_topic, plain_source, Source, source_cmp, sources_in, sources_of}
+use Rattle.eos_commits.specs.Roles.{Source, source_cmp, sources_in, sources_of}
+use Rattle.eos_commits.specs.steps.Roles.{plain_topic, plain_source}
 
 pub topic_has : (xs : List TopicRef) (k : TopicRef) → is_found topic_ghosts.cmp xs k ≡ is_found (slice_cmp nat_cmp) (map plain_topic xs) (plain_topic k)
 topic_has xs k = found_by plain_topic (slice_cmp nat_cmp) topic_ghosts.cmp (λ a b. refl) xs k

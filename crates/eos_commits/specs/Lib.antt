@@ -4,6 +4,7 @@ pub mod EpochCommits
 pub mod EvidenceLogs
 pub mod Applications
 pub mod NameTables
+pub mod Roles
 pub mod SourceTopics
 pub mod Kept
 pub mod Faults

@@ -22,7 +22,7 @@ pub use eos_verdict::{VisibleFault, VisibleFaultKind};
 pub use judge::{least_visible_fault, least_visible_fault_by};
 pub use name::{IndexedName, Names, names_of};
 pub use offsets::{committed_offsets, offsets_of};
-pub use roles::TopicSet;
+pub use roles::{SourceSet, TopicSet};
 pub use table::{CommitTable, commits_of, committed};
 pub use topics::source_topics;
 pub use visible::is_visible;

@@ -5,7 +5,8 @@ ghost use Rattle.std.specs.Ordering.{nat_cmp};
 ghost use Rattle.std.specs.Cmp.Lexicographic.{slice_cmp};
 ghost use Rattle.eos_base.specs.Members.{is_found};
 ghost use Rattle.eos_evidence.specs.SpecFields.{outputs_of};
-ghost use Rattle.eos_commits.specs.steps.Roles.{plain_topic, by_topic, plain_source, source_cmp, by_source, sources_under, sources_of};
+ghost use Rattle.eos_commits.specs.Roles.{source_cmp, sources_of};
+ghost use Rattle.eos_commits.specs.steps.Roles.{plain_topic, by_topic, plain_source, by_source, sources_under};
 
 use bytes::Bytes;
 use eos_base::{holds, in_order};
@@ -137,22 +138,78 @@ impl<'a> TopicSet<'a> {
     }
 }
 
+/// Groups and topics that they read, which contracts see as the list of these pairs, in order.
+#[derive(Drop)]
+pub struct SourceSet<'a> {
+    pairs: Vec<SourceRef<'a>>,
+}
+
+impl<'a> Model for SourceSet<'a> {
+    ghost use Rattle.std.specs.Prelude.{List, map, IsSorted};
+    ghost use Rattle.eos_commits.specs.Roles.{Source};
+    ghost use Rattle.eos_commits.specs.steps.Roles.{plain_source, by_source};
+
+    ghost Value = { List Source };
+
+    ghost view = { λ s. map plain_source s.pairs.items };
+
+    ghost invariant = { λ s. IsSorted by_source s.pairs.items };
+}
+
+impl<'a> SourceSet<'a> {
+    fn new(pairs: Vec<SourceRef<'a>>) -> SourceSet<'a>
+        ensures { IsPermutation (map plain_source pairs.entry.items) result }
+    {
+        SourceSet {
+            pairs: in_order(pairs),
+        }
+    }
+
+    /// What these applications read.
+    ///
+    /// # Errors
+    /// Only want of memory.
+    pub fn of(alloc: Global, apps: &'a [App]) -> Result<SourceSet<'a>, AllocError>
+        ensures { IfOk result (λ set. IsPermutation (sources_of apps.now) set) }
+    {
+        let pairs = all_sources(alloc, apps)?;
+        Ok(SourceSet::new(pairs))
+    }
+
+    /// What a group reads.
+    fn of_group(
+        alloc: Global,
+        group: &'a [u8],
+        topics: &'a [Bytes],
+    ) -> Result<SourceSet<'a>, AllocError>
+        ensures { IfOk result (λ set. IsPermutation (sources_under group.now topics.now) set) }
+    {
+        let mut pairs = Vec::new(alloc);
+        push_sources(&mut pairs, group, topics)?;
+        Ok(SourceSet::new(pairs))
+    }
+
+    /// Whether this is an application's group and one of its source topics.
+    pub fn has(&self, group: &[u8], topic: &[u8]) -> bool
+        ensures { result ≡ is_found source_cmp self.now (group.now, topic.now) }
+    {
+        is_source_in(self.pairs.as_slice(), &SourceRef { group, topic })
+    }
+}
+
 /// What the applications read and write.
 #[derive(Drop)]
 pub(crate) struct Roles<'a> {
-    sources: Vec<SourceRef<'a>>,
+    sources: SourceSet<'a>,
     outputs: TopicSet<'a>,
 }
 
 impl<'a> Model for Roles<'a> {
-    ghost use Rattle.std.specs.Prelude.{map, IsSorted};
-    ghost use Rattle.eos_commits.specs.steps.Roles.{RoleSets, plain_source, by_source};
+    ghost use Rattle.eos_commits.specs.steps.Roles.{RoleSets};
 
     ghost Value = { RoleSets };
 
-    ghost view = { λ r. record { sources = map plain_source r.sources.items; outputs = r.outputs } };
-
-    ghost invariant = { λ r. IsSorted by_source r.sources.items };
+    ghost view = { λ r. record { sources = r.sources; outputs = r.outputs } };
 }
 
 impl<'a> Roles<'a> {
@@ -161,10 +218,10 @@ impl<'a> Roles<'a> {
         ensures sources { IfOk result (λ r. IsPermutation (sources_of apps.now) r.sources) }
         ensures outputs { IfOk result (λ r. IsPermutation (outputs_of apps.now) r.outputs) }
     {
-        let sources = all_sources(alloc, apps)?;
+        let sources = SourceSet::of(alloc, apps)?;
         let outputs = all_outputs(alloc, apps)?;
         Ok(Roles {
-            sources: in_order(sources),
+            sources,
             outputs: TopicSet::new(outputs),
         })
     }
@@ -177,10 +234,9 @@ impl<'a> Roles<'a> {
     ) -> Result<Roles<'a>, AllocError>
         ensures { IfOk result (λ r. IsPermutation (sources_under group.now topics.now) r.sources) }
     {
-        let mut sources = Vec::new(alloc);
-        push_sources(&mut sources, group, topics)?;
+        let sources = SourceSet::of_group(alloc, group, topics)?;
         Ok(Roles {
-            sources: in_order(sources),
+            sources,
             outputs: TopicSet::new(Vec::new(alloc)),
         })
     }
@@ -189,7 +245,7 @@ impl<'a> Roles<'a> {
     pub(crate) fn is_source(&self, group: &[u8], topic: &[u8]) -> bool
         ensures { result ≡ is_found source_cmp self.now.sources (group.now, topic.now) }
     {
-        is_source_in(self.sources.as_slice(), &SourceRef { group, topic })
+        self.sources.has(group, topic)
     }
 
     /// Whether an application writes to this topic.

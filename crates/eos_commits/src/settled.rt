@@ -1,6 +1,6 @@
 //! Whether the records of output topics are claims, found by threads that take partitions side by side.
 
-ghost use Rattle.std.specs.Prelude.{◌≡◌, ◌<◌, ◌%◌, ◌&&◌, ℕ, Bool, true, length, slice_index_or, IfOk};
+ghost use Rattle.std.specs.Prelude.{◌≡◌, ◌<◌, ◌%◌, ◌&&◌, ℕ, true, length, slice_index_or, IfOk};
 ghost use Rattle.eos_claims.specs.Headers.{claim_of};
 ghost use Rattle.eos_fold.specs.declared.item.Item.{Item};
 ghost use Rattle.eos_fold.specs.Parts.{PartLog};
@@ -12,7 +12,7 @@ ghost use Rattle.eos_commits.specs.steps.Settled.{are_claimed, is_settled as is_
 use crate::judge::{is_unclaimed, role_of};
 use crate::roles::Roles;
 use crate::visible::is_visible;
-use eos_base::Workers;
+use eos_base::{Workers, are_all};
 use eos_kept::{KeptBatch, KeptBatches, Look, Part};
 use std::alloc::{AllocError, Global};
 use std::thread;
@@ -89,17 +89,6 @@ fn are_settled_at(ground: &Ground<'_, '_, '_>, threads: usize, rest: usize) -> b
 {
     for i in 0..ground.parts.len() {
         if i % threads == rest && !is_settled(ground.roles, &ground.parts[i]) {
-            return false;
-        }
-    }
-    true
-}
-
-fn are_all(answers: &[bool]) -> bool
-    ensures { result ≡ true → (i : ℕ) (d : Bool) → i < length answers.now → slice_index_or answers.now i d ≡ true }
-{
-    for answer in answers {
-        if !*answer {
             return false;
         }
     }

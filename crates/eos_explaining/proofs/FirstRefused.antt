@@ -1,5 +1,5 @@
 -- The first refusal of a folder that is read whole is that of a source's pieces, but for a fold.
-use Rattle.std.proofs.Common.{◌≡◌, ◌<◌, ◌≤◌, ◌⊎◌, inl, inr, ℕ, zero, suc, false, List, [], ◌∷◌, ◌++◌, length, map, take, Option, None, Some, refl, sym, ap, ◌∙◌, subst, arith, length-append}
+use Rattle.std.proofs.Common.{◌≡◌, ◌<◌, ◌⊎◌, inl, inr, ℕ, zero, suc, List, [], ◌∷◌, ◌++◌, length, map, take, Option, None, Some, refl, sym, ap, ◌∙◌, subst, arith, length-append}
 use Rattle.std.proofs.lemmas.List.{length-map}
 use Rattle.std.proofs.lemmas.Option.{slice_get_within}
 use Rattle.std.specs.List.{AllByRecursion}
@@ -8,8 +8,8 @@ use Rattle.eos_disk.specs.Entries.{Entry, Unknown, Absent, File, Folder, HasByte
 use Rattle.eos_disk.specs.FirstUnread.{RefusesFirstFold, IsLogThere, IsFirstUnread, IsShapeSoFar, IsOfMore, IsFirstOfReading}
 use Rattle.eos_disk.specs.Paths.{segment_path}
 use Rattle.eos_disk.specs.Reading.{AreAllLogs}
-use Rattle.eos_disk.specs.Refusals.{IsLong, IsLongPiece, MayRefuse, RefusesFile, RefusesPiece}
-use Rattle.eos_disk.specs.Shapes.{AreListed, segment_of}
+use Rattle.eos_disk.specs.Refusals.{IsLong, IsLongPiece, RefusesFile, RefusesPiece}
+use Rattle.eos_disk.specs.Shapes.{segment_of}
 use Rattle.eos_disk.specs.Stopped.{AreUnlisted, AreListedTo}
 use Rattle.eos_disk.specs.declared.cause.Cause.{Cause}
 use Rattle.eos_disk.specs.declared.cause.Cause.TheVariants as causes
@@ -20,7 +20,6 @@ use Rattle.eos_disk.specs.declared.names.Form.TheVariants as in_form
 use Rattle.eos_evidence.specs.declared.partition.Partition.{Partition}
 use Rattle.eos_evidence.specs.declared.segment.Segment.{Segment}
 use Rattle.eos_evidence.specs.Evidence.{EvidenceParts, segments_of}
-use Rattle.eos_source.specs.FirstRefusals.{outcomes_of, pieces_of}
 use Rattle.eos_source.specs.FolderRefusals.{MayBePiece, OutcomeOf, OutcomeAt}
 use Rattle.eos_explaining.specs.Refused.{IsFirstOfWhole}
 use Rattle.eos_explaining.proofs.ReadAlone.{as_many}

@@ -1,9 +1,9 @@
 -- Faults that are counted one after the other, and the line that their counts give.
-use Rattle.std.proofs.Common.{◌≡◌, ℕ, suc, zero, ◌+◌, List, [], ◌∷◌, ◌++◌, ◌<◌, length, Bool, true, false, drop, get_or, append_assoc, Option, Some, None, refl, sym, ap, subst, ◌∙◌, arith, flat_map, cond, if◌then◌else◌, codes}
+use Rattle.std.proofs.Common.{◌≡◌, ℕ, ◌+◌, List, [], ◌∷◌, ◌++◌, ◌<◌, length, Bool, true, false, drop, get_or, append_assoc, Option, Some, None, refl, sym, ap, subst, ◌∙◌, arith, flat_map, cond, if◌then◌else◌, codes}
 use Rattle.std.specs.Prelude.{◌==◌}
 use Rattle.std.specs.List.{filter}
 use Rattle.std.specs.Fmt.{decimal}
-use Rattle.std.specs.BTreeMap.{BTreeMap, get}
+use Rattle.std.specs.BTreeMap.{get}
 use Rattle.std.specs.Ordering.{nat_cmp, is_eq}
 use Rattle.std.proofs.lemmas.List.{length-append, drop_more}
 use Rattle.std.proofs.lemmas.List.Elements.{filter-append}
@@ -12,11 +12,11 @@ use Rattle.eos_verdict.specs.Counts.{has_number, first_with, kind_of, kind_text,
 use Rattle.eos_verdict.specs.VerdictNames.{phase_of, number_of, name_of}
 use Rattle.eos_verdict.specs.declared.verdict.Fault.{Fault}
 use Rattle.eos_verdict.specs.declared.verdict.Verdict.{Verdict}
-use Rattle.eos_verdict.specs.declared.verdict.Verdict.TheVariants.{Yes, No}
+use Rattle.eos_verdict.specs.declared.verdict.Verdict.TheVariants.{No}
 use Rattle.eos_explaining.specs.declared.kinds.KindCount.{KindCount}
 use Rattle.eos_explaining.specs.declared.kinds.KindCounts.{KindCounts}
 use Rattle.eos_explaining.specs.steps.Kinds.{kind_line, kind_at, counts_text}
-use Rattle.eos_explaining.specs.steps.Counting.{IsKind, HasKind, AreKinds}
+use Rattle.eos_explaining.specs.steps.Counting.{HasKind, AreKinds}
 
 -- ---- numbers
 

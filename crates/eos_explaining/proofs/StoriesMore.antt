@@ -1,5 +1,5 @@
 -- Stories that are told one after the other.
-use Rattle.std.proofs.Common.{◌≡◌, ◌<◌, ◌+◌, ℕ, zero, suc, List, [], ◌∷◌, ◌++◌, Option, None, Some, String, Global, length, map, take, slice_get, refl, sym, ap, ◌∙◌, subst, arith, string_bytes}
+use Rattle.std.proofs.Common.{◌≡◌, ◌+◌, ℕ, zero, suc, List, [], ◌∷◌, ◌++◌, Some, String, Global, map, take, slice_get, sym, ap, subst, arith, string_bytes}
 use Rattle.std.proofs.lemmas.List.{map-append}
 use Rattle.eos_verdict.specs.declared.verdict.Verdict.{Verdict}
 use Rattle.eos_disk.specs.Entries.{Entry}

@@ -1,4 +1,3 @@
-pub mod SourceSearch
 pub mod HomesMet
 pub mod UnaskedPart
 pub mod SpotFold

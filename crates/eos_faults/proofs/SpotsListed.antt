@@ -20,7 +20,8 @@ use Rattle.eos_verdict.specs.declared.visible_fault.VisibleFaultKind.{VisibleFau
 use Rattle.eos_verdict.specs.declared.visible_fault.VisibleFaultKind.TheVariants.{SplitGroup}
 use Rattle.eos_commits.specs.Commits.{Group, is_same, is_offsets_part}
 use Rattle.eos_commits.specs.Faults.{visible_cmp, Stands, AreInOrder}
-use Rattle.eos_commits.specs.steps.Roles.{RoleSets, sources_of}
+use Rattle.eos_commits.specs.Roles.{sources_of}
+use Rattle.eos_commits.specs.steps.Roles.{RoleSets}
 use Rattle.eos_commits.specs.steps.Walks.{is_below}
 use Rattle.eos_commits.proofs.RecordsLaw.{int_order}
 use Rattle.eos_commits.proofs.Spots.{Spot, spots, Before, Up, in_order, IsCommit, ShowsAs, fault_of, to_stands, from_stands}

@@ -4,7 +4,7 @@ use Rattle.std.proofs.lemmas.List.{append-nil}
 use Rattle.eos_fold.specs.declared.item.Item.{Item}
 use Rattle.eos_fold.specs.Parts.{PartLog}
 use Rattle.eos_commits.specs.Visible.{is_visible}
-use Rattle.eos_commits.specs.steps.Roles.{Source}
+use Rattle.eos_commits.specs.Roles.{Source}
 use Rattle.eos_faults.specs.declared.shown.Role.{Role}
 use Rattle.eos_faults.specs.steps.Gathered.{Gathered, take_visible, take_item}
 

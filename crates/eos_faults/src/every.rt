@@ -20,7 +20,6 @@ use crate::reading::{claims_of, inputs_of};
 use eos_commits::{CommitTable, TopicSet};
 use eos_evidence::{App, GroupId, Spec};
 use eos_kept::Part;
-use eos_lineage::LineageFault;
 use std::alloc::{AllocError, Global};
 
 fn faults_of<'a>(
@@ -95,21 +94,5 @@ pub fn lent_output_faults<'a>(
         let faults = faults_of(alloc, app, &table, parts)?;
         push_faults(&mut list, group_of(apps, app), faults)?;
     }
-    Ok(list)
-}
-
-/// The same with names of their own.
-///
-/// # Errors
-/// Only want of memory.
-pub fn all_output_faults(
-    alloc: Global,
-    spec: &Spec,
-    parts: &[Part],
-) -> Result<Vec<LineageFault>, AllocError>
-    ensures { AreInOrder parts.now → NoneStands (StandsAtRecord spec.now.apps parts.now) → IfOk result (λ faults. AreLineageFaults spec.now.apps parts.now faults.items) }
-{
-    let lent = lent_output_faults(alloc, spec, parts)?;
-    let list = lent.all(alloc)?;
     Ok(list)
 }

@@ -5,9 +5,8 @@ ghost use Rattle.eos_commits.specs.Faults.{visible_cmp, Stands, AreInOrder};
 ghost use Rattle.eos_base.specs.AllOf.{IsAllOf};
 
 use crate::gathering::gather;
-use crate::sources::{Sources, all_outputs};
-use eos_commits::{TopicSet, VisibleFault};
-use eos_evidence::App;
+use eos_commits::{SourceSet, TopicSet, VisibleFault};
+use eos_evidence::{App, outputs_of};
 use eos_kept::Part;
 use std::alloc::{AllocError, Global};
 
@@ -29,8 +28,8 @@ pub fn all_record_faults(
 ) -> Result<Vec<VisibleFault>, AllocError>
     ensures { AreInOrder parts.now → IfOk result (λ faults. IsAllOf visible_cmp (Stands apps.now parts.now) faults.items) }
 {
-    let sources = Sources::of(alloc, apps)?;
-    let topics = all_outputs(alloc, apps)?;
+    let sources = SourceSet::of(alloc, apps)?;
+    let topics = outputs_of(alloc, apps)?;
     let outputs = TopicSet::of(alloc, topics.as_slice())?;
     let faults = gather(alloc, &sources, &outputs, parts)?;
     Ok(faults)

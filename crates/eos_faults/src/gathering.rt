@@ -1,14 +1,13 @@
 //! One walk over the records of all partitions.
 
 ghost use Rattle.std.specs.Prelude.{◌≡◌, ◌++◌, ◌∷◌, [], OnOk, IfOk};
-ghost use Rattle.eos_faults.specs.steps.Gathered.{fault_at, tested, refusal_at, shown_at, role_in, take_visible, take_item, take_part, empty, gathered};
+ghost use Rattle.eos_faults.specs.steps.Gathered.{fault_at, tested, refusal_at, shown_at, role_in, take_item, take_part, empty, gathered};
 ghost use Rattle.eos_faults.specs.steps.Lent.{plain_gathering};
 
 use crate::homes::Homes;
 use crate::shown::{Role, Shown, by_commit, is_unclaimed};
-use crate::sources::Sources;
 use eos_base::{PartitionName, RecordFault};
-use eos_commits::{TopicSet, VisibleFault, VisibleFaultKind, is_visible};
+use eos_commits::{SourceSet, TopicSet, VisibleFault, VisibleFaultKind, is_visible};
 use eos_kept::{ItemRef, Part};
 use std::alloc::{AllocError, Global};
 use std::collections::BTreeMap;
@@ -85,42 +84,25 @@ fn push_shown(
     Ok(())
 }
 
-fn take_visible<'a>(
-    gathering: &mut Gathering<'a>,
-    sources: &Sources<'_>,
-    part: &Part,
-    role: Role,
-    item: ItemRef<'a>,
-) -> Result<(), AllocError>
-    ensures { OnOk result (plain_gathering gathering.new ≡ take_visible sources.now part.now role (plain_gathering gathering.old) item.entry) }
-{
-    let faults = &mut gathering.faults;
-    let offset = item.offset();
-    let shown = by_commit(sources, &mut gathering.homes, role, &item)?;
-    let unclaimed = role.is_output && is_unclaimed(item);
-    push_tested(
-        faults,
-        unclaimed,
-        part,
-        offset,
-        VisibleFaultKind::BadLineage,
-    )?;
-    push_shown(faults, part, offset, shown)?;
-    Ok(())
-}
-
 fn take_item<'a>(
     gathering: &mut Gathering<'a>,
-    sources: &Sources<'_>,
+    sources: &SourceSet<'_>,
     part: &Part,
     role: Role,
     item: ItemRef<'a>,
 ) -> Result<(), AllocError>
     ensures { OnOk result (plain_gathering gathering.new ≡ take_item sources.now part.now role (plain_gathering gathering.old) item.entry) }
 {
-    if is_visible(item.fate()) {
-        return take_visible(gathering, sources, part, role, item);
+    if !is_visible(item.fate()) {
+        return Ok(());
     }
+    let faults = &mut gathering.faults;
+    let offset = item.offset();
+    let shown = by_commit(sources, &mut gathering.homes, role, &item)?;
+    let unclaimed = role.is_output && is_unclaimed(item);
+    let lineage = VisibleFaultKind::BadLineage;
+    push_tested(faults, unclaimed, part, offset, lineage)?;
+    push_shown(faults, part, offset, shown)?;
     Ok(())
 }
 
@@ -137,7 +119,7 @@ fn role_of(outputs: &TopicSet<'_>, part: &Part) -> Role
 
 fn take_part<'a>(
     gathering: &mut Gathering<'a>,
-    sources: &Sources<'_>,
+    sources: &SourceSet<'_>,
     outputs: &TopicSet<'_>,
     part: &'a Part,
 ) -> Result<(), AllocError>
@@ -157,7 +139,7 @@ fn take_part<'a>(
 /// The faults of the visible records of these partitions, in the order of their places.
 pub(crate) fn gather(
     alloc: Global,
-    sources: &Sources<'_>,
+    sources: &SourceSet<'_>,
     outputs: &TopicSet<'_>,
     parts: &[Part],
 ) -> Result<Vec<VisibleFault>, AllocError>

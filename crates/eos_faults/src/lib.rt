@@ -23,12 +23,11 @@ mod segments;
 mod shown;
 mod shown_by_claims;
 mod shown_by_log;
-mod sources;
 mod stops;
 mod tables;
 mod walk;
 
-pub use every::{all_output_faults, lent_output_faults};
+pub use every::lent_output_faults;
 pub use faults::all_record_faults;
 pub use log_faults::faults_of_partition;
 pub use outputs::OutputFaults;

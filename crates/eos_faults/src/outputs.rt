@@ -129,19 +129,4 @@ impl<'a> OutputFaults<'a> {
     {
         own(alloc, &self.faults[at])
     }
-
-    /// All of them, with names of their own.
-    ///
-    /// # Errors
-    /// Only want of memory.
-    pub fn all(&self, alloc: Global) -> Result<Vec<LineageFault>, AllocError>
-        ensures { IfOk result (λ all. all.items ≡ self.now) }
-    {
-        let mut all = Vec::new(alloc);
-        for at in 0..self.len() {
-            let fault = self.fault(alloc, at)?;
-            all.push(fault)?;
-        }
-        Ok(all)
-    }
 }

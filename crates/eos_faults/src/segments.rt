@@ -1,31 +1,15 @@
 //! The front of a partition's segments, batch by batch, up to where it ends.
 
-ghost use Rattle.std.specs.Prelude.{◌≡◌, ◌≢◌, ◌<◌, ◌≤◌, ◌+◌, length, Bool, List, IfOk, MatchResult, true, false};
+ghost use Rattle.std.specs.Prelude.{◌<◌, ◌≤◌, ◌+◌, length, Bool, List, IfOk, MatchResult};
 ghost use Rattle.eos_batch.specs.declared.batch.Batch.{Batch};
-ghost use Rattle.eos_batch.specs.declared.fault.BatchFault.TheVariants.{OutOfMemory as WantOfMemory};
-ghost use Rattle.eos_fold.specs.Fronts.{base_of};
-ghost use Rattle.eos_fold.specs.declared.stop.Stop.TheVariants.{AtEnd};
-ghost use Rattle.eos_touch.specs.Front.{records_in};
 ghost use Rattle.eos_faults.specs.steps.Walks.{HasPassed, Passes, Stops, HasPassedSegment, HasWalked};
 
 use crate::walk::Walk;
 use bytes::Bytes;
-use eos_batch::BatchFault;
 use eos_evidence::Segment;
-use eos_fold::{Stop, read_head};
+use eos_fold::{Stop, begin_of, is_at_end, read_head, refusal};
 use eos_wire::are_bytes;
 use std::alloc::{AllocError, Global};
-
-/// What reading refuses, unless it is for want of memory.
-fn refusal(fault: BatchFault) -> Result<BatchFault, AllocError>
-    ensures same { IfOk result (λ refusal. refusal ≡ fault) }
-    ensures real { IfOk result (λ refusal. refusal ≢ WantOfMemory) }
-{
-    match fault {
-        BatchFault::OutOfMemory => Err(AllocError),
-        refusal => Ok(refusal),
-    }
-}
 
 /// Passes the batch at this byte of a segment and gives its size, or says why the front ends there.
 fn pass_next(
@@ -74,24 +58,6 @@ fn pass_segment(alloc: Global, walk: &mut Walk, bytes: &Bytes) -> Result<Stop, A
         }
     }
     Ok(Stop::AtEnd)
-}
-
-/// A segment's name, the offset of its first record.
-fn begin_of(segment: &Segment) -> u64
-    ensures { result ≡ base_of segment.now }
-{
-    segment.base.unsigned_abs()
-}
-
-/// Whether a front uses all bytes.
-fn is_at_end(stop: Stop) -> bool
-    ensures at_end { result ≡ true → stop ≡ AtEnd }
-    ensures other { result ≡ false → stop ≢ AtEnd }
-{
-    match stop {
-        Stop::AtEnd => true,
-        _ => false,
-    }
 }
 
 /// Walks along the front of a partition's segments and says why it ends. All bytes of the front are read, and no record is kept.

@@ -9,8 +9,8 @@ ghost use Rattle.eos_faults.specs.steps.Gathered.{nothing, refused, by_value, by
 ghost use Rattle.eos_faults.specs.steps.Lent.{homes_of};
 
 use crate::homes::{Homes, enter};
-use crate::sources::Sources;
 use eos_base::RecordFault;
+use eos_commits::SourceSet;
 use eos_kept::ItemRef;
 use eos_offsets::{view_key, view_value};
 use std::alloc::AllocError;
@@ -75,7 +75,7 @@ fn by_value(value: Option<&[u8]>, is_split: bool) -> Shown
 }
 
 fn by_key<'a>(
-    sources: &Sources<'_>,
+    sources: &SourceSet<'_>,
     homes: &mut Homes<'a>,
     number: i32,
     key: Option<&'a [u8]>,
@@ -101,7 +101,7 @@ fn by_key<'a>(
 
 /// What a visible record shows where it has to be a commit.
 pub(crate) fn by_commit<'a>(
-    sources: &Sources<'_>,
+    sources: &SourceSet<'_>,
     homes: &mut Homes<'a>,
     role: Role,
     item: &ItemRef<'a>,

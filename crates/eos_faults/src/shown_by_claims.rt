@@ -2,7 +2,7 @@
 
 ghost use Rattle.std.specs.Prelude.{◌≡◌, ◌++◌, map, flat_map, IfOk, OnOk};
 ghost use Rattle.eos_claims.specs.Outputs.{Application};
-ghost use Rattle.eos_claims.specs.Candidates.{counted, fault_at, is_out_of_range as is_out, when};
+ghost use Rattle.eos_claims.specs.Candidates.{counted, fault_at, when};
 ghost use Rattle.eos_faults.specs.steps.OutputFaultsGathered.{placed_at, numbered_at, shown_at, missing_at, lacking, gathered_by};
 ghost use Rattle.eos_faults.specs.steps.Plain.{claim_at, fault_of, place_at};
 ghost use Rattle.eos_faults.specs.steps.Tables.{AreTables};
@@ -11,7 +11,7 @@ use crate::lent::{LentFault, LentPlace, VisibleClaim};
 use crate::tables::{
     Tables, disagrees, first_absent, is_committed, is_input, is_passed, is_repeated, is_source,
 };
-use eos_claims::OutputKind;
+use eos_claims::{OutputKind, is_out_of_range};
 use std::alloc::{AllocError, Global};
 
 /// Puts the claim's fault of this kind at the end, where it stands.
@@ -55,17 +55,6 @@ fn push_placed<'a>(
     Ok(())
 }
 
-/// Neither in 1 to the count, nor the note 0 of 0.
-fn is_out_of_range(claim: &VisibleClaim<'_>) -> bool
-    ensures { result ≡ is_out claim.now.of claim.now.output }
-{
-    if claim.of == 0 {
-        claim.output > 0
-    } else {
-        claim.output == 0 || claim.output > claim.of
-    }
-}
-
 /// What a claim shows by its number and its count.
 fn push_numbered<'a>(
     faults: &mut Vec<LentFault<'a>>,
@@ -74,7 +63,7 @@ fn push_numbered<'a>(
 ) -> Result<(), AllocError>
     ensures { (a : Application) → AreTables a tables.now → OnOk result (map fault_of faults.new.items ≡ map fault_of faults.old.items ++ numbered_at a (claim_at claim.now)) }
 {
-    let out = is_out_of_range(claim);
+    let out = is_out_of_range(claim.of, claim.output);
     let disagrees = disagrees(tables, claim);
     let repeated = is_repeated(tables, claim);
     push_when(faults, out, OutputKind::NumberRange, claim)?;

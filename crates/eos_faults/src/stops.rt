@@ -1,15 +1,15 @@
 //! What the end of a front shows.
 
-ghost use Rattle.std.specs.Prelude.{◌≡◌, ◌++◌, ℤ, List, pos, OnOk, IfOk};
+ghost use Rattle.std.specs.Prelude.{◌≡◌, ◌++◌, OnOk, IfOk};
 ghost use Rattle.std.specs.List.{flat_map};
-ghost use Rattle.std.specs.Ordering.{int_eq, int_cmp};
+ghost use Rattle.std.specs.Ordering.{int_cmp};
 ghost use Rattle.std.specs.BTreeMap.{get};
 ghost use Rattle.eos_faults.specs.PartitionPlaces.{is_left_open};
 ghost use Rattle.eos_faults.specs.steps.Found.{end_at, open_of, found_at};
 
 use crate::shown_by_log::{Shown, push_shown};
 use crate::walk::Walk;
-use eos_fold::Stop;
+use eos_fold::{Stop, is_declared};
 use eos_touch::{PartitionFaultKind, Touch, is_open};
 use std::alloc::AllocError;
 use std::collections::BTreeMap;
@@ -22,13 +22,6 @@ fn is_left_open(last: Option<Touch>) -> bool
         None => false,
         Some(touch) => is_open(touch),
     }
-}
-
-/// Whether a front ends where its log was declared to end.
-fn is_declared(next: u64, end: i64) -> bool
-    ensures { result ≡ int_eq (pos next) end }
-{
-    end >= 0 && end.unsigned_abs() == next
 }
 
 fn push_end(shown: &mut Vec<Shown>, next: u64, end: i64) -> Result<(), AllocError>

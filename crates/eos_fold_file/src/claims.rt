@@ -9,7 +9,7 @@ ghost use Rattle.eos_fold_file.specs.steps.Kept.{AreReadBack};
 use crate::FoldKept;
 use bytes::Bytes;
 use eos_claims::ClaimRef;
-use eos_reading::{BoxedClaim, KeptOutput};
+use eos_reading::KeptOutput;
 
 /// Whether there are headers that say a claim, or say none. Their numbers are signed, and none of a claim is below 0.
 pub(crate) fn is_said(claim: Option<ClaimRef<'_>>) -> bool
@@ -26,16 +26,6 @@ pub(crate) fn is_said(claim: Option<ClaimRef<'_>>) -> bool
         return false;
     }
     claim.output < 1 << 31 && claim.of < 1 << 31
-}
-
-/// A claim, lent, where there is one.
-pub(crate) fn lent(claim: &Option<BoxedClaim>) -> Option<ClaimRef<'_>>
-    ensures { option_map plain_claim result ≡ claim.now }
-{
-    match claim {
-        None => None,
-        Some(claim) => Some(claim.view()),
-    }
 }
 
 fn are_outputs_said(topics: &[Bytes], outputs: &[KeptOutput]) -> bool

@@ -8,9 +8,9 @@ ghost use Rattle.eos_fold_file.specs.Folds.{fold_text_of};
 ghost use Rattle.eos_fold_file.specs.steps.Kept.{text_record};
 ghost use Rattle.eos_fold_file.specs.steps.TextLists.{plain_text, texts_of, IsBare, IsUnsaid};
 
-use crate::claims::{is_said, lent};
+use crate::claims::is_said;
 use eos_claims::ClaimRef;
-use eos_reading::{BoxedClaim, KeptList, KeptTexts};
+use eos_reading::{BoxedClaim, KeptList, KeptTexts, lent_claim};
 use std::alloc::{AllocError, Global};
 use std::marker::Model;
 
@@ -48,7 +48,7 @@ fn claim_at(claims: &[Option<BoxedClaim>], i: usize) -> Option<ClaimRef<'_>>
     ensures { option_map plain_claim result ≡ get_or claims.now i None }
 {
     if i < claims.len() {
-        return lent(&claims[i]);
+        return lent_claim(&claims[i]);
     }
     None
 }
@@ -103,7 +103,7 @@ impl FoldTexts {
     ) -> Result<(), AllocError>
         ensures { OnOk result (self.new ≡ self.old ++ record { key = option_map (λ s. s.now) key.entry; value = option_map (λ s. s.now) value.entry; claim = claim } ∷ []) }
     {
-        let said = lent(&claim);
+        let said = lent_claim(&claim);
         if is_said(said) {
             self.texts.push(alloc, key, value, said)?;
             return Ok(());

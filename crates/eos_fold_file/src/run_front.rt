@@ -1,25 +1,13 @@
 //! The front whose batches have the heads of a fold.
 
-ghost use Rattle.std.specs.Prelude.{◌≡◌, ◌≤◌, ◌^◌, List, IfOk, if◌then◌else◌};
+ghost use Rattle.std.specs.Prelude.{◌≡◌, ◌≤◌, ◌^◌, List, IfOk};
 ghost use Rattle.eos_batch.specs.declared.batch.Batch.{Batch};
 ghost use Rattle.eos_kept.specs.Passing.{GoesAlong, data_count};
 ghost use Rattle.eos_fold_file.specs.steps.Heads.{AreFrom};
 
 use crate::FoldHead;
-use eos_batch::BatchHead;
-use eos_kept::Front;
+use eos_kept::{Front, data_records};
 use std::alloc::{AllocError, Global};
-
-/// The number of a batch's data records.
-fn data_records(head: &BatchHead) -> usize
-    ensures value { result ≡ (if head.now.is_control then 0 else head.now.count) }
-    ensures bound { result ≤ head.now.count }
-{
-    if head.is_control {
-        return 0;
-    }
-    head.count as usize
-}
 
 /// The front of the batches that have these heads, one after the other from this offset on, and the number of their data records.
 ///

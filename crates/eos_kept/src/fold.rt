@@ -8,14 +8,14 @@ ghost use Rattle.eos_fold.specs.Sums.{is_checked};
 ghost use Rattle.eos_kept.specs.Kept.{IsKept};
 ghost use Rattle.eos_kept.specs.steps.Folding.{IsFolding, EndsAt, CutsAt};
 
-use crate::front::{Front, is_at_end};
+use crate::front::Front;
 use crate::pass::pass_all;
 use crate::sizes::Sizes;
 use crate::summary::Kept;
 use bytes::Bytes;
 use eos_batch::{BatchFault, BatchHead};
 use eos_evidence::MAX_SEGMENT_BYTES;
-use eos_fold::{ByteFold, Stop};
+use eos_fold::{ByteFold, Stop, is_at_end};
 use eos_reading::{EpochEntry, KeptList, Reading, Seal, keep_batches, push_entries, read_seals};
 use std::alloc::{AllocError, Global};
 use std::marker::Model;

@@ -1,7 +1,6 @@
 //! The front of a list of segments, without its records.
 
-ghost use Rattle.std.specs.Prelude.{◌≡◌, ◌≢◌, ◌≤◌, ◌+◌, ◌^◌, true, false, [], ◌++◌, List, length, vec_len, vec_capacity, None, IfOk, IfErr, OnOk};
-ghost use Rattle.std.specs.Option.{option_to_list};
+ghost use Rattle.std.specs.Prelude.{◌≡◌, ◌≤◌, ◌+◌, ◌^◌, [], ◌++◌, List, length, vec_len, vec_capacity, None, IfOk, IfErr};
 ghost use Rattle.eos_batch.specs.declared.batch.Batch.{Batch};
 ghost use Rattle.eos_evidence.specs.declared.segment.Segment.{Segment};
 ghost use Rattle.eos_fold.specs.declared.stop.Stop.TheVariants.{AtEnd};
@@ -14,7 +13,7 @@ use crate::Run;
 use eos_batch::Marker;
 use eos_fold::Stop;
 use eos_reading::{EpochEntry, append_entries};
-use std::alloc::{AllocError, Global};
+use std::alloc::Global;
 
 /// The front of a list of segments.
 #[derive(Drop)]
@@ -32,31 +31,6 @@ pub struct Front {
     /// The leader epochs of its batches, each with the offset at which it begins.
     pub epochs: Vec<EpochEntry>,
     pub run: Run,
-}
-
-/// Whether a front uses all bytes.
-pub(crate) fn is_at_end(stop: Stop) -> bool
-    ensures at_end { result ≡ true → stop ≡ AtEnd }
-    ensures other { result ≡ false → stop ≢ AtEnd }
-{
-    match stop {
-        Stop::AtEnd => true,
-        _ => false,
-    }
-}
-
-/// Puts an end marker at the end, if there is one.
-pub(crate) fn push_marker(
-    markers: &mut Vec<Marker>,
-    marker: Option<Marker>,
-) -> Result<(), AllocError>
-    ensures { OnOk result (markers.new.items ≡ markers.old.items ++ option_to_list marker) }
-{
-    let Some(marker) = marker else {
-        return Ok(());
-    };
-    markers.push(marker)?;
-    Ok(())
 }
 
 /// Puts the end markers of what follows at the end, for which there is room.

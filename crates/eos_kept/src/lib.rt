@@ -49,6 +49,7 @@ pub use log_items::{Cursor, Items};
 pub use log_part::Part;
 pub use logs::Logs;
 pub use part::{KeptPart, Told};
+pub use pass::data_records;
 pub use run::Run;
 pub use segment::keep_segment;
 pub use sizes::Sizes;

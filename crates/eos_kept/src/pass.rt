@@ -7,9 +7,9 @@ ghost use Rattle.eos_kept.specs.Runs.{IsRun};
 ghost use Rattle.eos_kept.specs.Passing.{IsRealHead, GoesAlong};
 ghost use Rattle.eos_kept.specs.steps.Passing.{AreHeads, Passes};
 
-use crate::front::{Front, push_marker};
+use crate::front::Front;
 use eos_batch::BatchHead;
-use eos_fold::Stop;
+use eos_fold::{Stop, push_marker};
 use std::alloc::{AllocError, Global};
 
 impl Front {
@@ -41,7 +41,7 @@ impl Front {
 }
 
 /// The number of a batch's data records.
-fn data_records(head: &BatchHead) -> usize
+pub fn data_records(head: &BatchHead) -> usize
     ensures value { result ≡ (if head.now.is_control then 0 else head.now.count) }
     ensures bound { result ≤ head.now.count }
 {

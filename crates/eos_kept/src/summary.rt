@@ -7,10 +7,10 @@ ghost use Rattle.eos_kept.specs.Kept.{IsKept, SameKept};
 ghost use Rattle.eos_kept.specs.Passing.{HoldsEach};
 
 use crate::DataHead;
-use crate::front::{Front, is_at_end};
+use crate::front::Front;
 use crate::sizes::Sizes;
 use eos_batch::Marker;
-use eos_fold::Stop;
+use eos_fold::{Stop, is_at_end};
 use eos_reading::KeptList;
 use std::alloc::Global;
 use std::marker::Model;

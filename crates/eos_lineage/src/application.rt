@@ -11,12 +11,12 @@ ghost use Rattle.eos_lineage.specs.steps.Walks.{one_if, AreTables, AreNamed, by_
 
 use crate::claims::{Output, take_outputs};
 use crate::sorting::sorted;
-use crate::tables::{Tables, is_committed, source_of};
+use crate::tables::{Tables, is_committed};
 use bytes::Bytes;
 use eos_base::{PartitionName, Workers};
 use eos_claims::{
     Found, NumberedClaim, OutputFault, Place, PlaceRef, SourceRef, least_of_input,
-    least_of_neighbours,
+    least_of_neighbours, source_at,
 };
 use std::alloc::{AllocError, Global};
 use std::thread::Threads;
@@ -98,7 +98,7 @@ fn own_place_if(alloc: Global, place: &Option<PlaceRef<'_>>) -> Result<Option<Pl
 {
     match place {
         None => Ok(None),
-        Some(place) => Ok(Some(own_source(alloc, &source_of(place))?)),
+        Some(place) => Ok(Some(own_source(alloc, &source_at(*place))?)),
     }
 }
 

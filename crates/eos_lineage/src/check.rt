@@ -20,7 +20,7 @@ use crate::logs::Logs;
 use crate::passes::PassTable;
 use crate::pipeline::Pipeline;
 use crate::tables::Tables;
-use eos_base::Workers;
+use eos_base::{Workers, sum};
 use eos_commits::{CommitTable, least_visible_fault_by, names_of, offsets_of};
 use eos_evidence::{App, GroupId, Spec};
 use eos_kept::Part;
@@ -75,13 +75,6 @@ fn group_of(apps: &[App], app: &App) -> Result<Option<GroupId>, AllocError>
     } else {
         Ok(None)
     }
-}
-
-/// No machine has memory for as many records as 64 bits can't count.
-fn sum(a: u64, b: u64) -> Result<u64, AllocError>
-    ensures { IfOk result (λ s. s ≡ a + b) }
-{
-    a.checked_add(b).ok_or(AllocError)
 }
 
 /// The outputs of the applications, one after the other.

@@ -17,8 +17,7 @@ use crate::claims::Output;
 use crate::keys::{Keys, keys_of};
 use crate::shares::{Share, shares_of};
 use crate::sorting::sorted;
-use crate::tables::is_before;
-use eos_base::Workers;
+use eos_base::{Workers, is_below};
 use eos_commits::is_visible;
 use eos_fold::Fate;
 use eos_kept::{KeptBatch, KeptBatches, Part};
@@ -100,7 +99,7 @@ fn take_record<'k>(
     ensures { (ns : List PartitionName) (n : PartitionName) (item : Item) → place ≡ place_among ns n → fate ≡ item.fate → offset ≡ item.offset
         → IfSome result (λ after. HasTaken ns (plain_left left.entry) (plain_left after) (below_at committed.now n item)) }
 {
-    if is_visible(fate) && is_before(offset, *committed) {
+    if is_visible(fate) && is_below(offset, *committed) {
         take_input(left, place, offset)
     } else {
         Some(left)

@@ -1,6 +1,6 @@
 //! What is known of the place that a claim names, by the tables of one application.
 
-ghost use Rattle.std.specs.Prelude.{◌≡◌, IsSorted, slice_get, int_lt, pos};
+ghost use Rattle.std.specs.Prelude.{◌≡◌, IsSorted, slice_get};
 ghost use Rattle.eos_base.specs.Members.{Has, is_found};
 ghost use Rattle.eos_claims.specs.declared.place.Place.{Place};
 ghost use Rattle.eos_claims.specs.Outputs.{Application};
@@ -9,7 +9,8 @@ ghost use Rattle.eos_claims.specs.Plain.{plain_source, plain_place};
 ghost use Rattle.eos_lineage.specs.steps.Walks.{AreTables, KnowsPlace, AreTests, by_place, is_below_in, flags_of};
 
 use crate::passes::{PassMarks, PassTable};
-use eos_claims::{PlaceRef, SourceRef, SourceTests};
+use eos_base::is_below;
+use eos_claims::{PlaceRef, SourceRef, SourceTests, source_at};
 use eos_commits::{Names, TopicSet};
 
 /// What an application reads and commits, in order for look-ups. Each table is lent for a time of its own; the names and
@@ -43,20 +44,13 @@ fn is_input(inputs: &[PlaceRef<'_>], place: &PlaceRef<'_>) -> bool
     inputs.binary_search(place).is_ok()
 }
 
-/// Whether the offset is below the committed one.
-pub(crate) fn is_before(offset: u64, committed: i64) -> bool
-    ensures { result ≡ int_lt (pos offset) committed }
-{
-    committed > 0 && offset < committed as u64
-}
-
 /// Whether the offset is below the one that stands at this place.
 fn is_below_at(offsets: &[i64], place: usize, offset: u64) -> bool
     ensures { result ≡ is_below_in (slice_get offsets.now place) offset }
 {
     match offsets.get(place) {
         None => false,
-        Some(committed) => is_before(offset, *committed),
+        Some(committed) => is_below(offset, *committed),
     }
 }
 
@@ -108,22 +102,11 @@ pub(crate) fn tests_of(
     }
 }
 
-/// The same place.
-pub(crate) fn source_of<'a>(place: &PlaceRef<'a>) -> SourceRef<'a>
-    ensures { plain_source result ≡ plain_place place.entry.now }
-{
-    SourceRef {
-        topic: place.partition.topic.as_slice(),
-        partition: place.partition.partition,
-        offset: place.offset,
-    }
-}
-
 /// Whether an input is below its committed offset.
 pub(crate) fn is_committed(tables: &Tables<'_, '_, '_, '_, '_, '_>, input: &PlaceRef<'_>) -> bool
     ensures { (a : Application) → AreTables a tables.now → Has a.inputs (plain_place input.now) → result ≡ is_committed_in a (plain_place input.now) }
 {
-    let source = source_of(input);
+    let source = source_at(*input);
     match known_of(tables, &source) {
         None => false,
         Some(known) => known.is_committed,

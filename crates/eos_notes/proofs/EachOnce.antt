@@ -1,6 +1,6 @@
 -- Names in order, each once, and what is among them.
-use Rattle.std.proofs.Common.{◌≡◌, zero, suc, List, [], ◌∷◌, map, refl, sym, ap, subst, ◌∙◌, inl, inr, true, false, Bool, not, arith, IsPermutation}
-use Rattle.std.specs.List.{Any, Contains, AllByRecursion, filter}
+use Rattle.std.proofs.Common.{◌≡◌, List, [], ◌∷◌, map, refl, sym, ap, subst, ◌∙◌, true, false, Bool, not, arith, IsPermutation}
+use Rattle.std.specs.List.{AllByRecursion, filter}
 use Rattle.std.specs.List.Sorted.{IsStrictlySortedBy}
 use Rattle.std.specs.Ordering.{is_eq}
 use Rattle.std.specs.declared.cmp.Ordering.TheVariants.{Less}
@@ -17,18 +17,6 @@ use Rattle.eos_notes.specs.declared.unlisted.NameRef.{NameRef}
 use Rattle.eos_notes.specs.CommitNotes.{end_name, is_listed, AreUnlisted}
 use Rattle.eos_notes.specs.steps.Unlisted.{plain_name, by_name, commit_name, is_unlisted, AreEachOnce}
 
--- ---- members by place
-
-contained_has : {X : Type 0} (xs : List X) (x : X) → Contains xs x → Has xs x
-contained_has [] x (k, lt, e) = absurd (omega (arith, lt))
-contained_has (y ∷ ys) x (zero, lt, e) = inl e
-contained_has (y ∷ ys) x (suc k, lt, e) = inr (contained_has ys x (k, omega (arith, lt), e))
-
-has_contained : {X : Type 0} (xs : List X) (x : X) → Has xs x → Contains xs x
-has_contained [] x h = absurd h
-has_contained (y ∷ ys) x (inl e) = (0, omega arith, e)
-has_contained (y ∷ ys) x (inr h) = let r = has_contained ys x h in let lt = r.1 in (suc r.0, omega (arith, lt), r.2)
-
 -- ---- in order
 
 all_plain : (x : NameRef) (ys : List NameRef) → AllByRecursion (λ y. by_name x y ≡ Less) ys → AllByRecursion (λ m. name_cmp (plain_name x) m ≡ Less) (map plain_name ys)
@@ -40,23 +28,22 @@ unfolding IsStrictlySortedBy
 plain_ascend [] h = h
 plain_ascend (x ∷ xs) h = (all_plain x xs h.0, plain_ascend xs h.1)
 
-pub each_once : (all kept : List NameRef) → IsStrictlySortedBy by_name kept → ((x : NameRef) → Contains kept x → Contains all x)
-    → ((x : NameRef) → Contains all x → Any (λ y. is_eq (by_name x y) ≡ true) kept) → AreEachOnce (map plain_name all) (map plain_name kept)
+pub each_once : (all kept : List NameRef) → IsStrictlySortedBy by_name kept → ((x : NameRef) → Has kept x → Has all x)
+    → ((x : NameRef) → Has all x → (y : NameRef) × Has kept y × (is_eq (by_name x y) ≡ true)) → AreEachOnce (map plain_name all) (map plain_name kept)
 each_once all kept up sound whole = record { ascend = plain_ascend kept up; members = λ n. (there n, back n) }
   where
     there : (n : PartitionName) → Has (map plain_name kept) n → Has (map plain_name all) n
     there n h =
         let r = map_has plain_name kept n h in
-        subst (Has (map plain_name all)) r.2 (has_map plain_name all r.0 (contained_has all r.0 (sound r.0 (has_contained kept r.0 r.1))))
+        subst (Has (map plain_name all)) r.2 (has_map plain_name all r.0 (sound r.0 r.1))
 
     back : (n : PartitionName) → Has (map plain_name all) n → Has (map plain_name kept) n
     back n h =
         let r = map_has plain_name all n h in
-        let w = whole r.0 (has_contained all r.0 r.1) in
-        let y = w.1 in
-        let there = contained_has kept y (w.0, w.2, w.3) in
-        let same : plain_name y ≡ n = sym (name_exact (plain_name r.0) (plain_name y) (is_tied (by_name r.0 y) w.4)) ∙ r.2 in
-        subst (Has (map plain_name kept)) same (has_map plain_name kept y there)
+        let w = whole r.0 r.1 in
+        let y = w.0 in
+        let same : plain_name y ≡ n = sym (name_exact (plain_name r.0) (plain_name y) (is_tied (by_name r.0 y) w.2)) ∙ r.2 in
+        subst (Has (map plain_name kept)) same (has_map plain_name kept y w.1)
 
 -- ---- those that aren't listed
 

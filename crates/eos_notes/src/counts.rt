@@ -5,8 +5,8 @@ ghost use Rattle.eos_notes.specs.Counts.{IsCounted, AreCounted};
 ghost use Rattle.eos_notes.specs.PartitionTallies.{bytes_in};
 
 use crate::fronts::count_batches;
-use crate::records::sum;
 use crate::tally::Counted;
+use eos_base::sum;
 use eos_evidence::{Partition, Segment};
 use std::alloc::{AllocError, Global};
 

@@ -1,15 +1,12 @@
 //! How many batches the front of a partition's segments has.
 
-ghost use Rattle.std.specs.Prelude.{◌≡◌, ◌≢◌, ◌<◌, length, IfOk, OnOk, MatchOption};
-ghost use Rattle.eos_batch.specs.declared.fault.BatchFault.TheVariants.{OutOfMemory as WantOfMemory};
-ghost use Rattle.eos_fold.specs.Fronts.{base_of};
+ghost use Rattle.std.specs.Prelude.{◌<◌, length, IfOk, MatchOption};
 ghost use Rattle.eos_notes.specs.PartitionTallies.{HasBatches};
 ghost use Rattle.eos_notes.specs.steps.Walks.{Fits, Ends, Passes, HasPassedSegment};
 
 use bytes::Bytes;
-use eos_batch::BatchFault;
 use eos_evidence::Segment;
-use eos_fold::read_head;
+use eos_fold::{begin_of, read_head, refusal};
 use eos_wire::are_bytes;
 use std::alloc::{AllocError, Global};
 
@@ -19,16 +16,6 @@ struct Front {
     /// The offset after its last record.
     next: u64,
     batches: u64,
-}
-
-/// Whether reading was refused for the bytes, and not for want of memory.
-fn of_the_bytes(fault: BatchFault) -> Result<(), AllocError>
-    ensures { OnOk result (fault ≢ WantOfMemory) }
-{
-    match fault {
-        BatchFault::OutOfMemory => Err(AllocError),
-        _ => Ok(()),
-    }
 }
 
 /// The front with the batch at this byte, and the batch's size; None where the front ends there.
@@ -53,7 +40,7 @@ fn pass_batch(
             Ok(Some((Front { next, batches }, head.size)))
         }
         Err(fault) => {
-            of_the_bytes(fault)?;
+            refusal(fault)?;
             Ok(None)
         }
     }
@@ -75,13 +62,6 @@ fn pass_segment(alloc: Global, before: Front, bytes: &Bytes) -> Result<(Front, b
         at += size;
     }
     Ok((front, true))
-}
-
-/// A segment's name, the offset of its first record.
-fn begin_of(segment: &Segment) -> u64
-    ensures { result ≡ base_of segment.now }
-{
-    segment.base.unsigned_abs()
 }
 
 /// The number of batches of the front of a partition's segments. All bytes of the front are read, and no record is kept.

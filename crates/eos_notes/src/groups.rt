@@ -1,6 +1,6 @@
 //! The notes of what a group has committed.
 
-ghost use Rattle.std.specs.Prelude.{◌≡◌, ◌++◌, ◌+◌, ℤ, pos, int_lt, [], ◌∷◌, map, flat_map, length, get_or, IfOk, OnOk, if◌then◌else◌};
+ghost use Rattle.std.specs.Prelude.{◌≡◌, ◌++◌, ◌+◌, ℤ, pos, [], ◌∷◌, map, flat_map, length, get_or, IfOk, OnOk, if◌then◌else◌};
 ghost use Rattle.eos_base.specs.declared.partition_name.PartitionName.{PartitionName as Name};
 ghost use Rattle.eos_claims.specs.Outputs.{Application, committed_offset};
 ghost use Rattle.eos_commits.specs.Plain.{plain_commit};
@@ -10,7 +10,7 @@ ghost use Rattle.eos_notes.specs.CommitNotes.{past_end_at, nothing_by, behind_by
 ghost use Rattle.eos_notes.specs.steps.Counted.{past_end_if, count_visible, count_below};
 
 use crate::note::Note;
-use eos_base::PartitionName;
+use eos_base::{PartitionName, is_below, sum};
 use eos_commits::{CommitRef, TopicSet, is_visible};
 use eos_evidence::GroupId;
 use eos_kept::{ItemRef, Part};
@@ -131,20 +131,6 @@ pub(crate) fn push_behind(
         })?;
     }
     Ok(())
-}
-
-/// No machine has memory for as many records as 64 bits can't count.
-fn sum(a: u64, b: u64) -> Result<u64, AllocError>
-    ensures { IfOk result (λ s. s ≡ a + b) }
-{
-    a.checked_add(b).ok_or(AllocError)
-}
-
-/// Whether the record at this offset is below the committed one.
-pub(crate) fn is_below(offset: u64, committed: i64) -> bool
-    ensures { result ≡ int_lt (pos offset) committed }
-{
-    committed > 0 && offset < committed as u64
 }
 
 /// With one record more.

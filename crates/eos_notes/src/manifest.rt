@@ -10,7 +10,7 @@ ghost use Rattle.eos_notes.specs.ManifestNotes.{no_application, topics_of, absen
 use crate::note::{InternalTopic, Note};
 use bytes::Bytes;
 use eos_commits::TopicSet;
-use eos_evidence::{App, End, GroupId};
+use eos_evidence::{App, End, GroupId, push_topics};
 use std::alloc::{AllocError, Global};
 
 // ---- no application
@@ -39,16 +39,6 @@ fn topics_of_ends(alloc: Global, ends: &[End]) -> Result<Vec<Bytes>, AllocError>
         topics.push(end.topic.clone()?)?;
     }
     Ok(topics)
-}
-
-/// Puts these topics at the end.
-fn push_topics(all: &mut Vec<Bytes>, topics: &[Bytes]) -> Result<(), AllocError>
-    ensures { OnOk result (all.new.items ≡ all.old.items ++ topics.now) }
-{
-    for topic in topics {
-        all.push(topic.clone()?)?;
-    }
-    Ok(())
 }
 
 /// Puts what an application reads and writes at the end.

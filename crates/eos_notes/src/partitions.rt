@@ -1,12 +1,11 @@
 //! The table of partitions.
 
-ghost use Rattle.std.specs.Prelude.{◌≡◌, ◌≤◌, ◌++◌, ◌∷◌, [], None, Some, is_some, if◌then◌else◌, map, flat_map, length, IfOk, OnOk};
+ghost use Rattle.std.specs.Prelude.{◌≡◌, ◌≤◌, ◌∷◌, [], None, Some, is_some, if◌then◌else◌, map, flat_map, length, IfOk};
 ghost use Rattle.std.specs.Ordering.{nat_cmp};
 ghost use Rattle.std.specs.Cmp.Lexicographic.{slice_cmp};
 ghost use Rattle.eos_base.specs.Members.{is_found};
 ghost use Rattle.eos_commits.specs.Commits.{is_same as is_same_text};
 ghost use Rattle.eos_commits.specs.Visible.{visible};
-ghost use Rattle.eos_evidence.specs.SpecFields.{outputs_of as outputs_in};
 ghost use Rattle.eos_notes.specs.PartitionTallies.{sources_of as sources_in, roles_by, roles_of};
 ghost use Rattle.eos_notes.specs.TalliesByLogs.{beside, partition_tally as tally_of_partition};
 
@@ -15,22 +14,12 @@ use crate::tally::{Counted, PartitionTally, TopicRoles};
 use bytes::Bytes;
 use eos_base::Listed;
 use eos_commits::TopicSet;
-use eos_evidence::App;
+use eos_evidence::{App, outputs_of, push_topics};
 use eos_kept::{Logs, Part};
 use eos_touch::PartitionFault;
 use std::alloc::{AllocError, Global};
 
 // ---- roles
-
-/// Puts these topics at the end.
-fn push_topics(all: &mut Vec<Bytes>, topics: &[Bytes]) -> Result<(), AllocError>
-    ensures { OnOk result (all.new.items ≡ all.old.items ++ topics.now) }
-{
-    for topic in topics {
-        all.push(topic.clone()?)?;
-    }
-    Ok(())
-}
 
 fn sources_of(alloc: Global, apps: &[App]) -> Result<Vec<Bytes>, AllocError>
     ensures { IfOk result (λ topics. topics.items ≡ sources_in apps.now) }
@@ -38,16 +27,6 @@ fn sources_of(alloc: Global, apps: &[App]) -> Result<Vec<Bytes>, AllocError>
     let mut topics = Vec::new(alloc);
     for app in apps {
         push_topics(&mut topics, app.sources.as_slice())?;
-    }
-    Ok(topics)
-}
-
-fn outputs_of(alloc: Global, apps: &[App]) -> Result<Vec<Bytes>, AllocError>
-    ensures { IfOk result (λ topics. topics.items ≡ outputs_in apps.now) }
-{
-    let mut topics = Vec::new(alloc);
-    for app in apps {
-        push_topics(&mut topics, app.outputs.as_slice())?;
     }
     Ok(topics)
 }

@@ -1,20 +1,14 @@
 //! Counts of a partition's visible records.
 
-ghost use Rattle.std.specs.Prelude.{◌≡◌, ◌+◌, [], ◌∷◌, pos, int_lt, length, IfOk};
+ghost use Rattle.std.specs.Prelude.{◌≡◌, ◌+◌, [], ◌∷◌, length, IfOk};
 ghost use Rattle.eos_commits.specs.Visible.{visible};
 ghost use Rattle.eos_notes.specs.GroupTallies.{visible_below};
 ghost use Rattle.eos_notes.specs.steps.TalliesCounted.{count_visible as visible_among, count_below as below_among};
 
+use eos_base::{is_below, sum};
 use eos_commits::is_visible;
 use eos_kept::{ItemRef, Part};
 use std::alloc::AllocError;
-
-/// The sum of two counts. No machine has memory for as many as 64 bits can't count.
-pub(crate) fn sum(a: u64, b: u64) -> Result<u64, AllocError>
-    ensures { IfOk result (λ s. s ≡ a + b) }
-{
-    a.checked_add(b).ok_or(AllocError)
-}
 
 /// With one record more.
 fn with_visible(count: u64, item: &ItemRef<'_>) -> Result<u64, AllocError>
@@ -40,12 +34,6 @@ pub(crate) fn count_visible(part: &Part) -> Result<u64, AllocError>
         count = with_visible(count, &item)?;
     }
     Ok(count)
-}
-
-fn is_below(offset: u64, committed: i64) -> bool
-    ensures { result ≡ int_lt (pos offset) committed }
-{
-    committed > 0 && offset < committed as u64
 }
 
 /// With one record more.

@@ -10,9 +10,9 @@ ghost use Rattle.eos_notes.specs.ReplacedNotes.{Committed as CommittedOf, epoch_
 ghost use Rattle.eos_notes.specs.ReplicaNotes.{by_entries};
 ghost use Rattle.eos_notes.specs.steps.Replaced.{renamed, AreCommitted};
 
-use crate::groups::{is_below, offset_at};
+use crate::groups::offset_at;
 use crate::note::{Note, OtherRecord};
-use eos_base::{Listed, PartitionName};
+use eos_base::{Listed, PartitionName, is_below};
 use eos_commits::{CommitRef, CommitTable, committed_offsets};
 use eos_evidence::{App, GroupId};
 use eos_kept::Part;

@@ -1,9 +1,6 @@
 //! The notes of partitions that have no declared end, but of which a group has committed an offset.
 
-ghost use Rattle.std.specs.Prelude.{◌≡◌, ◌++◌, [], ◌∷◌, true, List, map, filter, IfOk, OnOk, IsPermutation, IsSorted};
-ghost use Rattle.std.specs.List.{Any, Contains};
-ghost use Rattle.std.specs.List.Sorted.{IsStrictlySortedBy};
-ghost use Rattle.std.specs.Ordering.{is_eq};
+ghost use Rattle.std.specs.Prelude.{◌≡◌, ◌++◌, [], ◌∷◌, List, map, filter, IfOk, OnOk, IsPermutation, IsSorted};
 ghost use Rattle.eos_base.specs.Members.{is_found};
 ghost use Rattle.eos_base.specs.PartitionNames.{name_cmp};
 ghost use Rattle.eos_base.specs.declared.partition_name.PartitionName.{PartitionName as Name};
@@ -16,7 +13,7 @@ ghost use Rattle.eos_notes.specs.steps.Unlisted.{plain_name, by_name, commit_nam
 
 use crate::note::Note;
 use bytes::Bytes;
-use eos_base::{PartitionName, holds, in_order};
+use eos_base::{PartitionName, distinct_in_order, holds, in_order};
 use eos_commits::{CommitRef, CommitTable};
 use eos_evidence::{App, End, GroupId};
 use std::alloc::{AllocError, Global};
@@ -76,17 +73,6 @@ fn unlisted_names<'a>(
         }
     }
     Ok(names)
-}
-
-/// The items in order, of those that are tied one.
-fn distinct_in_order<T: Ord + Drop>(mut items: Vec<T>) -> Vec<T>
-    ensures ascend { IsStrictlySortedBy T.cmp result.items }
-    ensures sound { (x : T) → Contains result.items x → Contains items.items x }
-    ensures whole { (x : T) → Contains items.items x → Any (λ y. is_eq (T.cmp x y) ≡ true) result.items }
-{
-    items.sort_unstable();
-    items.dedup();
-    items
 }
 
 /// Each name once, in order.

@@ -5,33 +5,16 @@ ghost use Rattle.std.specs.Option.{option_map};
 ghost use Rattle.eos_batch.specs.declared.batch.Batch.{Batch};
 ghost use Rattle.eos_batch.specs.Answers.{Fails};
 ghost use Rattle.eos_batch.specs.Attributes.{is_control};
-ghost use Rattle.eos_batch.specs.Heads.{head_with, head_of};
+ghost use Rattle.eos_batch.specs.Heads.{head_of};
 ghost use Rattle.eos_batch.specs.Marker.{control_type, coordinator_epoch_of, end_kind, marker_of};
 ghost use Rattle.eos_batch.specs.Places.{IsOpened, finished, records_in};
 ghost use Rattle.eos_batch.specs.Reading.{batch_at, with_records};
 
 use bytes::Bytes;
 use eos_batch::{Batch, BatchFault, BatchHead, Kind, Marker, Opened, RecordRef, lend_record};
-use eos_fold::read_head;
+use eos_fold::{head_with, read_head};
 use eos_wire::Fields;
 use std::alloc::Global;
-
-/// A batch's head, with the number of its records and bytes and its end marker.
-pub(crate) fn head_with(batch: &Batch, count: u32, size: usize, marker: Option<Marker>) -> BatchHead
-    ensures { result ≡ head_with batch.now count size marker }
-{
-    BatchHead {
-        offset: batch.base_offset.unsigned_abs(),
-        count,
-        size,
-        producer: batch.producer,
-        epoch: batch.epoch,
-        sequence: batch.sequence,
-        is_control: batch.is_control(),
-        is_transactional: batch.is_transactional(),
-        marker,
-    }
-}
 
 /// The type of a control record, by its key.
 fn control_type(key: Option<&[u8]>) -> Option<i16>

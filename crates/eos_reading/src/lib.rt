@@ -45,6 +45,7 @@ pub use placed::Placed;
 pub use reading::Reading;
 pub use record::KeptRecord;
 pub use seals::{Seal, push_entries, read_seals};
+pub use text::lent_claim;
 pub use texts::Texts;
 pub use wanted::Wanted;
 pub use wants::Wants;

@@ -70,7 +70,7 @@ fn boxed(alloc: Global, claim: Option<ClaimRef<'_>>) -> Result<Option<BoxedClaim
 }
 
 /// The claim, lent, where there is one.
-fn lent(claim: &Option<BoxedClaim>) -> Option<ClaimRef<'_>>
+pub fn lent_claim(claim: &Option<BoxedClaim>) -> Option<ClaimRef<'_>>
     ensures { option_map plain_claim result ≡ claim.now }
 {
     match claim {
@@ -111,6 +111,6 @@ impl KeptText {
         let (front, back) = self.bytes.as_slice().split_at(self.split);
         let key = if self.has_key { Some(front) } else { None };
         let value = if self.has_value { Some(back) } else { None };
-        KeptRecord::of_text(key, value, lent(&self.claim))
+        KeptRecord::of_text(key, value, lent_claim(&self.claim))
     }
 }

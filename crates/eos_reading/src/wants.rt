@@ -2,7 +2,6 @@
 
 ghost use Rattle.std.specs.Prelude.{◌≡◌, ◌++◌, ℕ, List, map, IfOk, OnOk, IsPermutation};
 ghost use Rattle.eos_evidence.specs.SpecFields.{outputs_of};
-ghost use Rattle.eos_evidence.specs.Topics.{is_internal};
 ghost use Rattle.eos_evidence.specs.declared.application.App.{App};
 ghost use Rattle.eos_reading.specs.Wanted.{wanted_of};
 ghost use Rattle.eos_reading.specs.Names.{plain_name};
@@ -10,16 +9,9 @@ ghost use Rattle.eos_reading.specs.Names.{plain_name};
 use crate::wanted::Wanted;
 use bytes::Bytes;
 use eos_base::Sorted;
-use eos_evidence::App;
+use eos_evidence::{App, is_internal_topic};
 use std::alloc::{AllocError, Global};
 use std::marker::Model;
-
-/// Whether Kafka keeps its own records in this topic.
-fn is_internal_topic(topic: &[u8]) -> bool
-    ensures { result ≡ is_internal topic.now }
-{
-    topic == b"__consumer_offsets".as_slice() || topic == b"__transaction_state".as_slice()
-}
 
 /// Puts these topics at the end.
 fn push_topics<'a>(all: &mut Vec<&'a [u8]>, topics: &'a [Bytes]) -> Result<(), AllocError>

@@ -5,7 +5,8 @@ use Rattle.eos_base.specs.declared.partition_name.PartitionName.{PartitionName}
 use Rattle.eos_text.specs.Adding.{Adds}
 use Rattle.eos_txnlog.specs.PartitionSets.{name_of, names_in_topic, names_of}
 use Rattle.eos_txnlog.specs.declared.partitions.TopicPartitions.{TopicPartitions}
-use Rattle.eos_segment.specs.Names.{name_text, names_text, separator}
+use Rattle.eos_verdict.specs.FaultTexts.{name_text}
+use Rattle.eos_segment.specs.Names.{names_text, separator}
 
 joined : (p a b whole : List ℕ) → whole ≡ a ++ b → p ++ whole ≡ (p ++ a) ++ b
 joined p a b whole e = rw e (sym (append_assoc p a b))

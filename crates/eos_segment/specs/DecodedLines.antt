@@ -6,7 +6,8 @@ use Rattle.eos_offsets.specs.declared.key.OffsetKey.{OffsetKey}
 use Rattle.eos_text.specs.Escaping.{escaped}
 use Rattle.eos_txnlog.specs.declared.value.TxnValue.{TxnValue}
 use Rattle.eos_txnlog.specs.PartitionSets.{names_of}
-use Rattle.eos_segment.specs.Names.{name_text, names_text, status_name}
+use Rattle.eos_verdict.specs.FaultTexts.{name_text}
+use Rattle.eos_segment.specs.Names.{names_text, status_name}
 
 -- the record's input, and which output of how many it is
 unfoldable pub claim_line : Claim → List ℕ

@@ -1,14 +1,10 @@
 -- How partitions and states of a transactional id are printed: a topic, a hyphen and a number, as Kafka's log directories are
 -- named, and the states as Kafka's `TransactionState` names them.
-use Rattle.std.specs.Prelude.{ℕ, ℤ, Bool, true, false, List, [], ◌∷◌, ◌++◌, codes}
-use Rattle.std.specs.Fmt.{signed_decimal}
+use Rattle.std.specs.Prelude.{ℕ, Bool, true, false, List, [], ◌∷◌, ◌++◌, codes}
 use Rattle.eos_base.specs.declared.partition_name.PartitionName.{PartitionName}
-use Rattle.eos_text.specs.Escaping.{escaped}
 use Rattle.eos_txnlog.specs.declared.status.Status.{Status}
 use Rattle.eos_txnlog.specs.declared.status.Status.TheVariants as statuses
-
-abbrev pub name_text : List ℕ → ℤ → List ℕ
-name_text topic number = escaped topic ++ (codes "-" ++ signed_decimal number)
+use Rattle.eos_verdict.specs.FaultTexts.{name_text}
 
 -- what stands before the first name, and before each other one
 abbrev pub separator : Bool → List ℕ

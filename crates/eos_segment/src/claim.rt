@@ -6,9 +6,10 @@ ghost use Rattle.eos_text.specs.Adding.{Adds};
 ghost use Rattle.eos_segment.specs.Decoding.{said_by_claim};
 ghost use Rattle.eos_segment.specs.DecodedLines.{claim_line};
 
-use crate::name::{push_name, push_unread};
+use crate::name::push_unread;
 use eos_batch::Header;
 use eos_claims::{Claim, read_claim};
+use eos_verdict::push_name;
 use std::alloc::{AllocError, Global};
 
 #[tactic(auto, unfolding(crate::specs::DecodedLines::claim_line))]

@@ -6,11 +6,12 @@ ghost use Rattle.eos_text.specs.Adding.{Adds};
 ghost use Rattle.eos_segment.specs.Decoding.{said_of_key, said_under_key, commit_key_under};
 ghost use Rattle.eos_segment.specs.DecodedLines.{commit_head, commit_line, deleted_line};
 
-use crate::name::{push_name, push_unread};
+use crate::name::push_unread;
 use bytes::Bytes;
 use eos_base::RecordFault;
 use eos_offsets::{KeyRef, view_key, view_value};
 use eos_text::{push_escaped, push_text};
+use eos_verdict::push_name;
 use std::alloc::{AllocError, Global};
 
 fn push_head(alloc: Global, out: &mut String, key: &KeyRef<'_>) -> Result<(), AllocError>

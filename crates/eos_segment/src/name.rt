@@ -1,29 +1,14 @@
 //! Names of partitions, and what isn't read.
 
-ghost use Rattle.std.specs.Prelude.{◌≡◌, ◌++◌, ◌&&◌, ◌==◌, length, true, OnOk, string_bytes};
+ghost use Rattle.std.specs.Prelude.{◌≡◌, ◌&&◌, ◌==◌, length, true, OnOk, string_bytes};
 ghost use Rattle.eos_text.specs.Adding.{Adds};
 ghost use Rattle.eos_txnlog.specs.PartitionSets.{names_in_topic, names_of};
 ghost use Rattle.eos_segment.specs.DecodedLines.{unread_line};
-ghost use Rattle.eos_segment.specs.Names.{name_text, names_text, separator as separator_of};
+ghost use Rattle.eos_segment.specs.Names.{names_text, separator as separator_of};
 
-use eos_text::{push_escaped, push_value};
 use eos_txnlog::TopicPartitions;
+use eos_verdict::push_name;
 use std::alloc::{AllocError, Global};
-
-/// Adds a label and the name of a partition.
-pub(crate) fn push_name(
-    alloc: Global,
-    out: &mut String,
-    label: &str,
-    topic: &[u8],
-    number: &i32,
-) -> Result<(), AllocError>
-    ensures { OnOk result (Adds (string_bytes out.old) (string_bytes out.new) (label.now ++ name_text topic.now number.now)) }
-{
-    push_escaped(alloc, out, label, topic)?;
-    push_value(out, "-", number)?;
-    Ok(())
-}
 
 fn separator(is_first: bool) -> &'static str
     ensures { result.now ≡ separator_of is_first }

@@ -1,9 +1,8 @@
 //! What a record of `__transaction_state` says.
 
-ghost use Rattle.std.specs.Prelude.{◌≡◌, ◌++◌, IfOk, OnOk, string_bytes};
+ghost use Rattle.std.specs.Prelude.{◌≡◌, OnOk, string_bytes};
 ghost use Rattle.eos_text.specs.Adding.{Adds};
 ghost use Rattle.eos_text.specs.Escaping.{escaped};
-ghost use Rattle.eos_txnlog.specs.Reading.{read_key, read_value};
 ghost use Rattle.eos_segment.specs.Decoding.{said_of_id, said_under_id, id_under};
 ghost use Rattle.eos_segment.specs.DecodedLines.{transaction_line, forgotten_line};
 ghost use Rattle.eos_segment.specs.Names.{status_name as status_text};
@@ -12,7 +11,7 @@ use crate::name::{push_names, push_unread};
 use bytes::Bytes;
 use eos_base::RecordFault;
 use eos_text::{push_escaped, push_text, push_value};
-use eos_txnlog::{Status, TxnValue, decode_key, decode_value};
+use eos_txnlog::{Status, TxnValue, read_id, read_state};
 use std::alloc::{AllocError, Global};
 
 fn status_name(status: Status) -> &'static str
@@ -54,26 +53,6 @@ fn push_forgotten(alloc: Global, out: &mut String, id: &[u8]) -> Result<(), Allo
     push_escaped(alloc, out, "  transaction id=", id)?;
     push_text(out, " tombstone\n")?;
     Ok(())
-}
-
-fn read_id(alloc: Global, key: &Bytes) -> Result<Result<Option<Bytes>, RecordFault>, AllocError>
-    ensures { IfOk result (λ read. read ≡ read_key key.now) }
-{
-    match decode_key(alloc, key) {
-        Ok(id) => Ok(Ok(id)),
-        Err(RecordFault::OutOfMemory) => Err(AllocError),
-        Err(fault) => Ok(Err(fault)),
-    }
-}
-
-fn read_state(alloc: Global, value: &Bytes) -> Result<Result<TxnValue, RecordFault>, AllocError>
-    ensures { IfOk result (λ read. read ≡ read_value value.now) }
-{
-    match decode_value(alloc, value) {
-        Ok(state) => Ok(Ok(state)),
-        Err(RecordFault::OutOfMemory) => Err(AllocError),
-        Err(fault) => Ok(Err(fault)),
-    }
 }
 
 fn push_of_id(

@@ -8,4 +8,5 @@ pub mod Wanted
 pub mod Places
 pub mod Partitions
 pub mod Times
+pub mod Batches
 pub mod Moments

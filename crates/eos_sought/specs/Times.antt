@@ -2,17 +2,16 @@
 -- base; or the broker's, where the batch says so, which is one time for all its records.
 -- Source: Kafka's documentation, Message Format, "Record Batch" (baseTimestamp, maxTimestamp; attributes, bit 3, timestampType: set for
 -- the time of the append) and "Record" (timestampDelta). Java adds in 64 bits, and goes on from the other end past the last.
-use Rattle.std.specs.Prelude.{ℕ, ℤ, pos, ◌-◌, List, [], ◌∷◌, length, drop, Option, Some, None, Result, Ok, Err, nat_lt, slice_get, if◌then◌else◌}
+use Rattle.std.specs.Prelude.{ℕ, ℤ, pos, ◌-◌, List, length, drop, Option, Some, None, Result, Ok, Err, nat_lt, slice_get, if◌then◌else◌}
 use Rattle.std.specs.Int.{w64, int_wrapping_add}
-use Rattle.std.specs.Ordering.{int_eq}
 use Rattle.eos_batch.specs.Attributes.{has_some_of}
 use Rattle.eos_batch.specs.Reading.{batch_at}
 use Rattle.eos_batch.specs.declared.batch.Batch.{Batch}
 use Rattle.eos_batch.specs.declared.fault.BatchFault.{BatchFault}
 use Rattle.eos_batch.specs.declared.record.Record.{Record}
 use Rattle.eos_evidence.specs.declared.partition.Partition.{Partition}
-use Rattle.eos_evidence.specs.declared.segment.Segment.{Segment}
 use Rattle.eos_sought.specs.declared.partition.Placed.{Placed}
+use Rattle.eos_sought.specs.Batches.{batch_in}
 
 abbrev pub record_time : Batch → Record → ℤ
 record_time b r = if has_some_of (pos 0x08) b.attributes then b.max_timestamp else int_wrapping_add w64 b.base_timestamp r.timestamp_delta
@@ -29,16 +28,11 @@ time_read i (Err fault) = None
 abbrev pub time_in_bytes : List ℕ → ℕ → ℕ → Option ℤ
 time_in_bytes bytes byte i = if nat_lt byte (length bytes) then time_read i (batch_at (drop byte bytes)) else None
 
--- the first segment of this name
-abbrev pub segment_named : ℤ → List Segment → Option Segment
-segment_named base [] = None
-segment_named base (s ∷ ss) = if int_eq s.base base then Some s else segment_named base ss
-
-abbrev pub time_in_segment : Option Segment → ℕ → ℕ → Option ℤ
-time_in_segment None byte i = None
-time_in_segment (Some s) byte i = time_in_bytes s.bytes byte i
+-- of the record of this number in a batch, where there is one
+abbrev pub time_in_batch : Option Batch → ℕ → Option ℤ
+time_in_batch None i = None
+time_in_batch (Some b) i = time_of_one b (slice_get b.records i)
 
 -- of the record of this offset, in the batch that stands there in this partition
 abbrev pub time_in : Option Partition → Placed → ℕ → Option ℤ
-time_in None p offset = None
-time_in (Some partition) p offset = time_in_segment (segment_named p.segment partition.segments) p.standing.byte (offset - p.standing.head.offset)
+time_in partition p offset = time_in_batch (batch_in partition p) (offset - p.standing.head.offset)

@@ -6,6 +6,7 @@
 #![tactic(auto)]
 
 mod alike;
+mod batch;
 mod commits;
 mod finding;
 mod holding;
@@ -17,6 +18,7 @@ mod times;
 mod walk;
 mod wanted;
 
+pub use batch::batch_of;
 pub use commits::{group_of, is_of_offsets_log, passes};
 pub use finding::{Find, Finds, find_records};
 pub use moment::push_time;
@@ -24,5 +26,5 @@ pub use partition::{Placed, batches_of, is_named, partition_named};
 pub use reading::{id_of, is_same, state_of};
 pub use sought::{Epochs, Sought};
 pub use times::{time_of, time_of_number};
-pub use walk::{batches_in, begin_of, next_standing};
+pub use walk::{batches_in, next_standing};
 pub use wanted::{Standing, Wanted};

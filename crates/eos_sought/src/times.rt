@@ -1,15 +1,14 @@
 //! When a record was written.
 
 ghost use Rattle.std.specs.Prelude.{◌≡◌, IfOk, slice_get};
-ghost use Rattle.std.specs.Option.{option_copied};
 ghost use Rattle.eos_sought.specs.Partitions.{partition_named};
-ghost use Rattle.eos_sought.specs.Times.{record_time, time_of_one, time_in_bytes, segment_named, time_in};
+ghost use Rattle.eos_sought.specs.Times.{record_time, time_of_one, time_in};
 
-use crate::partition::{Placed, partition_named};
-use bytes::Bytes;
+use crate::batch::batch_of;
+use crate::partition::Placed;
 use eos_base::PartitionName;
-use eos_batch::{Batch, Record, next_batch};
-use eos_evidence::{Partition, Segment};
+use eos_batch::{Batch, Record};
+use eos_evidence::Partition;
 use std::alloc::{AllocError, Global};
 
 /// Bit 3 of a batch's attributes: its time is the broker's.
@@ -37,35 +36,6 @@ pub fn time_of_number(batch: &Batch, number: u64) -> Option<i64>
     Some(record_time(batch, &records[number as usize]))
 }
 
-fn time_in_bytes(
-    alloc: Global,
-    bytes: &Bytes,
-    byte: usize,
-    number: u64,
-) -> Result<Option<i64>, AllocError>
-    ensures { IfOk result (λ time. time ≡ time_in_bytes bytes.now byte number) }
-{
-    if byte >= bytes.len() {
-        return Ok(None);
-    }
-    match next_batch(alloc, bytes, byte)? {
-        Ok((batch, _size)) => Ok(time_of_number(&batch, number)),
-        Err(_) => Ok(None),
-    }
-}
-
-/// The first segment of this name.
-fn segment_named(segments: &[Segment], base: i64) -> Option<&Segment>
-    ensures { option_copied result ≡ segment_named base segments.now }
-{
-    for segment in segments {
-        if segment.base == base {
-            return Some(segment);
-        }
-    }
-    None
-}
-
 /// The time of the record of this offset in the batch that stands there in the partition of this name, in milliseconds since
 /// 1970-01-01T00:00Z, as its batch says it: clocks lie. None where no such batch reads.
 ///
@@ -80,17 +50,11 @@ pub fn time_of(
 ) -> Result<Option<i64>, AllocError>
     ensures { IfOk result (λ time. time ≡ time_in (partition_named name.now partitions.now) placed offset) }
 {
-    let Some(partition) = partition_named(partitions, name) else {
-        return Ok(None);
-    };
-    let standing = placed.standing;
-    match segment_named(partition.segments.as_slice(), placed.segment) {
+    match batch_of(alloc, partitions, name, placed)? {
         None => Ok(None),
-        Some(segment) => time_in_bytes(
-            alloc,
-            &segment.bytes,
-            standing.byte,
-            offset.saturating_sub(standing.head.offset),
-        ),
+        Some(batch) => {
+            let number = offset.saturating_sub(placed.standing.head.offset);
+            Ok(time_of_number(&batch, number))
+        }
     }
 }

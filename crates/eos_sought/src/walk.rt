@@ -1,28 +1,15 @@
 //! The walk over a segment.
 
-ghost use Rattle.std.specs.Prelude.{◌≡◌, ◌≢◌, ◌<◌, ◌++◌, ◌∷◌, [], length, filter, IfOk, OnOk, MatchOption};
-ghost use Rattle.eos_batch.specs.declared.fault.BatchFault.TheVariants.{OutOfMemory as WantOfMemory};
-ghost use Rattle.eos_fold.specs.Fronts.{base_of};
+ghost use Rattle.std.specs.Prelude.{◌≡◌, ◌<◌, ◌++◌, ◌∷◌, [], length, filter, IfOk, OnOk, MatchOption};
 ghost use Rattle.eos_sought.specs.Wanted.{is_wanted};
 ghost use Rattle.eos_sought.specs.Places.{GoesOn, IsEnd, AreWantedIn};
 
 use crate::wanted::{Standing, Wanted};
 use bytes::Bytes;
-use eos_batch::BatchFault;
 use eos_evidence::Segment;
-use eos_fold::read_head;
+use eos_fold::{begin_of, read_head, refusal};
 use eos_wire::are_bytes;
 use std::alloc::{AllocError, Global};
-
-/// Whether reading was refused for the bytes, and not for want of memory.
-fn of_the_bytes(fault: BatchFault) -> Result<(), AllocError>
-    ensures { OnOk result (fault ≢ WantOfMemory) }
-{
-    match fault {
-        BatchFault::OutOfMemory => Err(AllocError),
-        _ => Ok(()),
-    }
-}
 
 /// The batch at this byte of a segment, where it begins at this offset; None where the segment's batches end there. The batch is
 /// read and tested, and only its head is kept.
@@ -47,7 +34,7 @@ pub fn next_standing(
             Ok(Some(Standing { byte: at, head }))
         }
         Err(fault) => {
-            of_the_bytes(fault)?;
+            refusal(fault)?;
             Ok(None)
         }
     }
@@ -64,13 +51,6 @@ fn push_wanted(
         found.push(standing)?;
     }
     Ok(())
-}
-
-/// A segment's name, the offset of its first record.
-pub fn begin_of(segment: &Segment) -> u64
-    ensures { result ≡ base_of segment.now }
-{
-    segment.base.unsigned_abs()
 }
 
 /// The batches of a segment that are wanted, in order, as far as each text is a batch and each begins where the one before

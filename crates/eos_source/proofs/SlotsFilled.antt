@@ -1,11 +1,11 @@
 -- Slots of which each is filled that was drawn.
-use Rattle.std.proofs.Common.{◌≡◌, ℕ, zero, suc, ◌+◌, ◌≤◌, ◌<◌, ◌==◌, cond, Bool, true, false, List, [], ◌∷◌, length, set, get_or, Option, Some, refl, sym, subst, ap, ◌∙◌, arith}
+use Rattle.std.proofs.Common.{◌≡◌, ℕ, zero, suc, ◌≤◌, ◌<◌, ◌==◌, cond, Bool, true, false, List, [], ◌∷◌, length, set, get_or, Option, Some, refl, subst, ap, ◌∙◌, arith}
 use Rattle.std.proofs.lemmas.Bool.{eqb-true, lt-ltb}
 use Rattle.std.proofs.lemmas.List.Sums.{sum_by-cons}
 use Rattle.std.specs.Prelude.{All, IsSome}
 use Rattle.std.specs.List.{count_by}
 use Rattle.eos_source.specs.steps.Slots.{IsFilled, AreFilledAsWell}
-use Rattle.eos_board.specs.SeatViews.{AreBelow, once_below}
+use Rattle.eos_board.specs.SeatViews.{AreBelow}
 
 module _ {A : Type 0} where
   pub stay : (slots : List (Option A)) (i : ℕ) (a : A) → AreFilledAsWell slots (set slots i (Some a))

@@ -11,7 +11,8 @@ use bytes::Bytes;
 use eos_base::Sorted;
 use eos_batch::{Batch, next_batch};
 use eos_evidence::Segment;
-use eos_sought::{Standing, Wanted, begin_of, next_standing, time_of_number};
+use eos_fold::begin_of;
+use eos_sought::{Standing, Wanted, next_standing, time_of_number};
 use std::alloc::{AllocError, Global};
 use std::marker::Model;
 

@@ -16,7 +16,8 @@ use crate::rising::{Rising, times_in};
 use bytes::Bytes;
 use eos_base::{PartitionName, Sorted};
 use eos_evidence::{Evidence, Partition, Segment, read_segment};
-use eos_sought::{begin_of, is_named};
+use eos_fold::begin_of;
+use eos_sought::is_named;
 use eos_source::{Piece, Source};
 use std::alloc::{AllocError, Global};
 

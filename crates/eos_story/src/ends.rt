@@ -17,7 +17,8 @@ use crate::scene::Scene;
 use crate::slices::around;
 use eos_base::PartitionName;
 use eos_evidence::{Partition, Segment};
-use eos_sought::{Wanted, begin_of, partition_named};
+use eos_fold::begin_of;
+use eos_sought::{Wanted, partition_named};
 use std::alloc::AllocError;
 
 /// How many of these segments begin at an offset or before it.

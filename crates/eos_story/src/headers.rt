@@ -12,7 +12,6 @@ ghost use Rattle.eos_story.specs.declared.row.Row.TheVariants.{Header as HeaderR
 ghost use Rattle.eos_story.specs.Questions.{Headers as HeadersOf};
 ghost use Rattle.eos_story.specs.steps.Telling.{Tells, TellsEach, IsNext};
 
-use crate::batch::batch_of;
 use crate::copies::copy_place;
 use crate::records::first_of;
 use crate::row::{Row, add_row};
@@ -21,7 +20,7 @@ use bytes::Bytes;
 use eos_base::Listed;
 use eos_batch::{Batch, Header, Headers};
 use eos_claims::Place;
-use eos_sought::{Placed, Sought, Wanted, batches_of, find_records};
+use eos_sought::{Placed, Sought, Wanted, batch_of, batches_of, find_records};
 use std::alloc::{AllocError, Global};
 
 /// The name of a header of a claim.

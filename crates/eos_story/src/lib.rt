@@ -4,7 +4,6 @@
 //! story is made elsewhere.
 #![tactic(auto)]
 
-mod batch;
 mod batches;
 mod beside;
 mod claims;

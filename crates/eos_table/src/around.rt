@@ -2,7 +2,6 @@
 
 ghost use Rattle.std.specs.Prelude.{◌≡◌, true, IfSome};
 ghost use Rattle.eos_wire.specs.FieldWriting.{section_text};
-ghost use Rattle.eos_txnlog.specs.Status.{status_number};
 ghost use Rattle.eos_table.specs.steps.Known.{version_of, IsAround};
 
 use eos_base::Listed;
@@ -36,22 +35,6 @@ fn form_of(version: i16) -> Option<Form>
     match version {
         0 => Some(Form::Plain),
         1 => Some(Form::Flexible),
-        _ => None,
-    }
-}
-
-fn status_of(number: i8) -> Option<Status>
-    ensures { IfSome result (λ status. status_number status ≡ number) }
-{
-    match number {
-        0 => Some(Status::Empty),
-        1 => Some(Status::Ongoing),
-        2 => Some(Status::PrepareCommit),
-        3 => Some(Status::PrepareAbort),
-        4 => Some(Status::CompleteCommit),
-        5 => Some(Status::CompleteAbort),
-        6 => Some(Status::Dead),
-        7 => Some(Status::PrepareEpochFence),
         _ => None,
     }
 }
@@ -96,7 +79,7 @@ pub(crate) fn fields_around(alloc: Global, value: &[u8]) -> Option<Around<'_>>
     let epoch = fields.i16()?;
     let timeout = fields.i32()?;
     let number = fields.i8()?;
-    let status = status_of(number)?;
+    let status = Status::from_number(number)?;
     let text = fields.take(fields.left().saturating_sub(tail_len(form)))?;
     let last_update = fields.i64()?;
     let start = fields.i64()?;

@@ -3,7 +3,7 @@
 ghost use Rattle.std.specs.Prelude.{◌≡◌, true, false, Some, IfOk, option_map};
 ghost use Rattle.std.specs.Option.{option_copied};
 ghost use Rattle.std.specs.Arc.{arc_value};
-ghost use Rattle.eos_txnlog.specs.Skips.{means_nothing, is_skipped};
+ghost use Rattle.eos_txnlog.specs.Skips.{is_skipped};
 ghost use Rattle.eos_txnlog.specs.Following.{step_verdict};
 ghost use Rattle.eos_table.specs.steps.Known.{bare_of, with_set};
 
@@ -34,12 +34,6 @@ impl Model for SharedValue {
 
 /// The value of the last unskipped record of each transactional id of a partition; none is a tombstone.
 pub(crate) type SharedValues = BTreeMap<Bytes, Option<SharedValue>>;
-
-fn means_nothing(status: Status) -> bool
-    ensures { result ≡ means_nothing status }
-{
-    matches!(status, Status::Dead | Status::PrepareEpochFence)
-}
 
 impl SharedValue {
     /// A value with these partitions in the place of its own.
@@ -100,7 +94,7 @@ impl SharedValue {
     fn is_other(&self, before: &SharedValue) -> bool
         ensures { result ≡ true → is_skipped (Some (Some before.now)) (Some self.now) ≡ false }
     {
-        !means_nothing(self.status())
+        !self.status().means_nothing()
             && (self.status() != before.status()
                 || self.producer() != before.producer()
                 || self.epoch() != before.epoch())
@@ -129,7 +123,7 @@ pub(crate) fn is_shared_skipped(
 {
     match (last, next) {
         (Some(Some(before)), Some(after)) => after.repeats(alloc, before),
-        (_, Some(after)) => Ok(means_nothing(after.status())),
+        (_, Some(after)) => Ok(after.status().means_nothing()),
         (Some(None), None) => Ok(true),
         (_, None) => Ok(false),
     }

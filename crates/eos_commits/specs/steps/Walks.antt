@@ -19,7 +19,8 @@ use Rattle.eos_commits.specs.declared.judge.Found.{Found}
 use Rattle.eos_commits.specs.declared.judge.PartRole.{PartRole}
 use Rattle.eos_commits.specs.Visible.{is_visible}
 use Rattle.eos_commits.specs.Commits.{Group, is_same, is_offsets_part, key_of, value_of}
-use Rattle.eos_commits.specs.steps.Roles.{RoleSets, source_cmp}
+use Rattle.eos_commits.specs.Roles.{source_cmp}
+use Rattle.eos_commits.specs.steps.Roles.{RoleSets}
 
 -- ---- the groups that were met, each with the partition where it was met first
 

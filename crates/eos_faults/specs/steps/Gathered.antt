@@ -14,7 +14,8 @@ use Rattle.eos_verdict.specs.declared.visible_fault.VisibleFaultKind.{VisibleFau
 use Rattle.eos_verdict.specs.declared.visible_fault.VisibleFaultKind.TheVariants.{BadLineage, BadOffset, SplitGroup, OffsetDeleted}
 use Rattle.eos_commits.specs.Visible.{is_visible}
 use Rattle.eos_commits.specs.Commits.{Group, Topic, is_same, is_offsets_part, key_of, value_of}
-use Rattle.eos_commits.specs.steps.Roles.{Source, RoleSets, source_cmp}
+use Rattle.eos_commits.specs.Roles.{Source, source_cmp}
+use Rattle.eos_commits.specs.steps.Roles.{RoleSets}
 use Rattle.eos_commits.specs.steps.Walks.{is_below, is_none}
 use Rattle.eos_faults.specs.declared.shown.Role.{Role}
 use Rattle.eos_faults.specs.declared.shown.Shown.{Shown}

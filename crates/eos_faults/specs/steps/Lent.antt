@@ -3,18 +3,9 @@ use Rattle.std.specs.Prelude.{ℕ, ℤ, List}
 use Rattle.std.specs.Ordering.{nat_cmp}
 use Rattle.std.specs.Cmp.Lexicographic.{slice_cmp}
 use Rattle.std.specs.BTreeMap.{BTreeMap, get_by}
-use Rattle.std.specs.declared.cmp.Ordering.{Ordering}
 use Rattle.std.specs.Borrow.{Bor}
-use Rattle.eos_commits.specs.steps.Roles.{Source, source_cmp}
-use Rattle.eos_faults.specs.declared.sources.SourceRef.{SourceRef}
 use Rattle.eos_faults.specs.declared.gathering.Gathering.{Gathering}
 use Rattle.eos_faults.specs.steps.Gathered.{Homes, Gathered}
-
-abbrev pub plain_source : SourceRef → Source
-plain_source s = (s.group.now, s.topic.now)
-
-abbrev pub by_source : SourceRef → SourceRef → Ordering
-by_source a b = source_cmp (plain_source a) (plain_source b)
 
 abbrev pub homes_of : BTreeMap (Bor (List ℕ)) ℤ → Homes
 homes_of table group = get_by (λ k. slice_cmp nat_cmp group k.now) table

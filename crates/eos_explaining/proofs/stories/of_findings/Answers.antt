@@ -1,4 +1,4 @@
-use Rattle.std.proofs.Common.{◌∙◌, List, map, take, drop, subst, string_bytes, ap}
+use Rattle.std.proofs.Common.{◌∙◌, List, map, take, subst, string_bytes, ap}
 use Rattle.std.proofs.lemmas.List.{take-map}
 use Rattle.eos_verdict.specs.declared.verdict.Verdict.{Verdict}
 use Rattle.eos_verdict.specs.declared.verdict.Verdict.TheVariants.{No}

@@ -1,4 +1,4 @@
-use Rattle.std.proofs.Common.{rules, List, String, Global, ◌≡◌, ◌+◌, ◌<◌, Some, length, map, take, string_bytes, subst, sym, refl, ◌∙◌, arith, slice_get}
+use Rattle.std.proofs.Common.{rules, List, String, Global, ◌≡◌, ◌+◌, ◌<◌, Some, length, map, take, string_bytes, subst, sym, refl, slice_get}
 use Rattle.std.proofs.lemmas.Option.{slice_get_read}
 use Rattle.eos_verdict.specs.declared.verdict.Verdict.{Verdict}
 use Rattle.eos_explaining.specs.FirstStories.{AreStoriesOf}

@@ -15,6 +15,6 @@ returns-else-head-front c =
     let ok = c.in-Ok.ensures.ok in
     passes c.args.bytes.now c.args.at c.args.front _ c.in-Ok.head c.from.result ok.0 fits c.requires.inside c.requires.fits ok.1 ok.2 c.if-head-front.false c.from.ensures refl refl
 
-pub returns-in_ok-of_the_bytes-in-Err : goal.returns-in_ok-of_the_bytes-in-Err
-returns-in_ok-of_the_bytes-in-Err c =
-    ends_at_bytes c.args.bytes.now c.args.at c.args.front.next c.in-Err.fault c.requires.inside c.in-Err.ensures.err c.in_ok-of_the_bytes-in-Err.ensures
+pub returns-in_ok-refusal-in-Err : goal.returns-in_ok-refusal-in-Err
+returns-in_ok-refusal-in-Err c =
+    ends_at_bytes c.args.bytes.now c.args.at c.args.front.next c.in-Err.fault c.requires.inside c.in-Err.ensures.err (rw c.in_ok-refusal-in-Err.ensures.same at c.in_ok-refusal-in-Err.ensures.real)

@@ -12,6 +12,6 @@ returns-else-head-next c =
     let ok = c.in-Ok.ensures.ok in
     goes c.args.bytes.now c.args.at c.args.next _ ok.0 fits c.requires ok.1 ok.2 c.if-head-next.false refl
 
-pub returns-in_ok-of_the_bytes-in-Err : goal.returns-in_ok-of_the_bytes-in-Err
-returns-in_ok-of_the_bytes-in-Err c =
-    ends_at_bytes c.args.bytes.now c.args.at c.args.next c.in-Err.fault c.in-Err.ensures.err c.in_ok-of_the_bytes-in-Err.ensures
+pub returns-in_ok-refusal-in-Err : goal.returns-in_ok-refusal-in-Err
+returns-in_ok-refusal-in-Err c =
+    ends_at_bytes c.args.bytes.now c.args.at c.args.next c.in-Err.fault c.in-Err.ensures.err (rw c.in_ok-refusal-in-Err.ensures.same at c.in_ok-refusal-in-Err.ensures.real)

@@ -1,4 +1,4 @@
-use Rattle.std.proofs.Common.{◌≡◌, true, length, map, get_or, sym, subst, ap, ◌∙◌}
+use Rattle.std.proofs.Common.{◌≡◌, true, length, get_or, sym, subst, ap, ◌∙◌}
 use Rattle.std.specs.Prelude.{All, Any}
 use Rattle.eos_evidence.specs.Evidence.{segments_of}
 use Rattle.eos_source.specs.Said.{known_by}

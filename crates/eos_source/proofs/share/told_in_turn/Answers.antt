@@ -1,4 +1,4 @@
-use Rattle.std.proofs.Common.{◌≡◌, ◌≤◌, ◌+◌, length, take, drop, inr, arith, rules}
+use Rattle.std.proofs.Common.{◌≤◌, ◌+◌, length, take, drop, inr, arith, rules}
 use Rattle.std.proofs.lemmas.Result.{err_from_is_err_and}
 use Rattle.std.specs.Vec.Iter.{into_iter_items}
 use Rattle.eos_evidence.specs.Evidence.{segments_of}

@@ -1,4 +1,4 @@
-use Rattle.std.proofs.Common.{◌≡◌, suc, [], ◌∷◌, ◌++◌, map, Some, subst, sym, ap, ◌∙◌, arith}
+use Rattle.std.proofs.Common.{suc, [], ◌∷◌, ◌++◌, map, Some, subst, sym, ap, ◌∙◌, arith}
 use Rattle.std.proofs.lemmas.List.{map-append}
 use Rattle.std.specs.Prelude.{All, IsSome}
 use Rattle.eos_source.proofs.slots.filled.Goals as goal

@@ -32,7 +32,7 @@ invariant_of-self-2 c =
     let f : c.push-3.new.self.items ≡ padded ++ c.args.claim ∷ [] = search rules in
     let other : c.is_said.result ≡ false = search rules in
     let unsaid : ReadsBack c.args.claim → ⊥ = λ back.
-    let said : c.is_said.result ≡ true = c.is_said.ensures.no (subst ReadsBack (sym c.lent-said.ensures) back) in
+    let said : c.is_said.result ≡ true = c.is_said.ensures.no (subst ReadsBack (sym c.lent_claim-said.ensures) back) in
     let bad : true ≡ false = sym said ∙ other in
     absurd cc in
     let kept = said_kept rs c.push-2.new.self.list padded key value None (pad_kept rs c.self.inside.unsaid.items padded c.self.invariant few (c.pad.ensures.unsaid c.self.invariant.unsaid)) none_back e in

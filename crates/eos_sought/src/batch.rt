@@ -3,14 +3,13 @@
 ghost use Rattle.std.specs.Prelude.{◌≡◌, IfOk};
 ghost use Rattle.std.specs.Option.{option_copied};
 ghost use Rattle.eos_sought.specs.Partitions.{partition_named};
-ghost use Rattle.eos_sought.specs.Times.{segment_named};
-ghost use Rattle.eos_story.specs.HeaderBytes.{batch_in_bytes, batch_in};
+ghost use Rattle.eos_sought.specs.Batches.{segment_named, batch_in_bytes, batch_in};
 
+use crate::partition::{Placed, partition_named};
 use bytes::Bytes;
 use eos_base::PartitionName;
 use eos_batch::{Batch, next_batch};
 use eos_evidence::{Partition, Segment};
-use eos_sought::{Placed, partition_named};
 use std::alloc::{AllocError, Global};
 
 /// The first segment of this name.
@@ -38,7 +37,10 @@ fn batch_in_bytes(alloc: Global, bytes: &Bytes, byte: usize) -> Result<Option<Ba
 }
 
 /// The batch that stands there in the partition of this name, with its records. None where no batch reads there.
-pub(crate) fn batch_of(
+///
+/// # Errors
+/// Only want of memory.
+pub fn batch_of(
     alloc: Global,
     partitions: &[Partition],
     name: &PartitionName,

@@ -1,6 +1,0 @@
-use Rattle.std.proofs.Common.{◌≡◌, take}
-use Rattle.eos_evidence.specs.SpecFields.{outputs_of}
-use Rattle.eos_faults.proofs.sources.all_outputs.Given as goal
-
-abbrev pub invariant-loop-app : goal.invariant-loop-app
-invariant-loop-app l = l.all.items ≡ outputs_of (take l.app-index l.apps)
