@@ -26,7 +26,7 @@ import tempfile
 
 SWITCHES = ["keep-duplicates", "no-fence", "no-bump", "lose-marker", "swap-marker", "hide-listing", "ignore-generation"]
 MISHAPS = ["lost-output", "repeated-output", "wrong-count", "wrong-number", "foreign-source", "no-headers", "offset-deleted"]
-RATES = ["lose", "repeat", "abandon", "members", "restart-broker", "restart-coordinator", "time-out"]
+RATES = ["lose", "repeat", "abandon", "members", "restart-broker", "restart-coordinator", "time-out", "add-partition"]
 SIZES = {"applications": (1, 8), "inputs": (1, 16), "outputs": (1, 16), "transaction-logs": (1, 4), "segment-records": (1, 40), "batch-records": (1, 8)}
 ARGUMENTS = {
     "feed": {"source"},
@@ -41,6 +41,7 @@ ARGUMENTS = {
     "coordinator-restart": set(),
     "deliver": {"message"},
     "time-out": {"application"},
+    "add-partition": {"session", "partition"},
 }
 REPLIES = {"done", "fenced", "out-of-order", "duplicate-kept", "wrong-state", "busy", "stale-generation", "epochs-spent", "unknown"}
 HEAD = {
@@ -383,6 +384,31 @@ def worked():
     told = {"events": len(timed_out), "transactions": 2, "lost": 0, "repeated": 0}
     found = replayed(HEAD, *timed_out, told)
     expect(found == answer, f"a time-out: {found}")
+    # partitions are added before a record comes: what is aborted so has end markers alone, and a later record finds its partition listed
+    added = [
+        *deeds[:3],
+        event(4, "add-partition", session=0, partition=0, reply="done", value=0),
+        event(5, "add-partition", session=0, partition=None, reply="done", value=0),
+        event(6, "add-partition", session=0, partition=2, reply="unknown"),
+        event(7, "add-partition", session=1, partition=0, reply="unknown"),
+        event(8, "end", session=0, kind="abort", reply="done", value=0),
+        event(9, "add-partition", session=0, partition=1, reply="wrong-state"),
+        event(10, "deliver", message=0, reply="done", value=1),
+        event(11, "deliver", message=1, reply="done", value=0),
+        event(12, "resume", session=0, reply="busy"),
+        event(13, "deliver", message=2, reply="done", value=0),
+        event(14, "resume", session=0, reply="done", value=1),
+        event(15, "add-partition", session=0, partition=1, reply="done", value=0),
+        *({**it, "value": 3 + at} for at, it in enumerate(deeds[3:6])),
+        *(event(16, "deliver", message=message) for message in (3, 4, 5)),
+        event(17, "end", session=0, kind="commit", reply="done", value=6),
+        event(18, "deliver", message=6, reply="done", value=7),
+        *(event(19, "deliver", message=message, reply="done") | {"value": value} for message, value in ((7, 1), (8, 2), (9, 2))),
+        event(20, "deliver", message=10, reply="unknown"),
+    ]
+    answer = (0, "wrote partitions=6\nyes transactions=2 inputs=2 outputs=1\n", "")
+    found = replayed(HEAD, *added)
+    expect(found == answer, f"partitions that are added: {found}")
     # cut before the end: a transaction is open
     expect(replayed(HEAD, *deeds[:9]) == (2, "", "eoscheck: the cluster is not at rest\n"), "a schedule that is cut")
     # nothing happens

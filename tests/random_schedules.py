@@ -77,7 +77,7 @@ def event(words):
     if choice == 12:
         return f"broker:{number(words)}"
     if choice == 13:
-        return f"time-out:{number(words)}" if words.next() % 2 else "coordinator"
+        return ("coordinator", f"time-out:{number(words)}", f"add:{number(words)},{words.next() % 3 - 1}")[words.next() % 3]
     return f"deliver:{words.next() % 12}"
 
 

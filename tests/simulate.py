@@ -78,7 +78,7 @@ MISHAPS = {
 }
 # A mistake of the second group.
 CHAINED = {"aborted-input": "5.6 NoSuchInput"}
-RATES = ["lose", "repeat", "abandon", "members", "restart-broker", "restart-coordinator", "abort", "time-out"]
+RATES = ["lose", "repeat", "abandon", "members", "restart-broker", "restart-coordinator", "abort", "time-out", "add-partition"]
 # The ranges of the sizes, and what they are where nothing is said.
 SIZES = {
     "applications": (1, 8, 2),
@@ -648,6 +648,7 @@ def bad_words():
         ["--seed", "7", "--events", "7", "--lose", "1001", folder],
         ["--seed", "7", "--events", "7", "--abort", "x", folder],
         ["--seed", "7", "--events", "7", "--time-out", "1001", folder],
+        ["--seed", "7", "--events", "7", "--add-partition", "1001", folder],
         ["--seed", "7", "--events", "7", "--switch-at", "1000001", folder],
         ["--seed", "7", "--events", "7", folder, "more"],
     ]:
@@ -657,6 +658,7 @@ def bad_words():
         (["--lose", "1000"], "rates: more than 1000 in all"),
         (["--repeat", "500", "--abort", "460"], "rates: more than 1000 in all"),
         (["--time-out", "860"], "rates: more than 1000 in all"),
+        (["--time-out", "400", "--add-partition", "460"], "rates: more than 1000 in all"),
         (["--switch-at", "3"], "--switch-at: no --switch"),
         (["--switch", "no-bump", "--switch-at", "8"], "--switch-at: more than --events"),
         (["--switch", "no-bump", "--no-tail"], "--no-tail: no --switch-at"),

@@ -20,7 +20,7 @@ use Rattle.eos_machine.specs.World.{World, coord_at, log_at}
 use Rattle.eos_machine.specs.Answers.{Answer, when}
 use Rattle.eos_machine.specs.Sessions.{resume_ended, produce, commit_offset, end_session, resume, fetch}
 use Rattle.eos_machine.specs.Deliveries.{appended, fenced, deliver}
-use Rattle.eos_machine.specs.Machine.{start_session, happens_under}
+use Rattle.eos_machine.specs.Machine.{start_session, add_partition, happens_under}
 use Rattle.eos_broker.specs.steps.Proper.{IsProper}
 
 abbrev IsProperAnswer : Answer → Type 0
@@ -73,6 +73,10 @@ fetched : (c : Config) (w : World) (q : ℕ) (s : Option Session) → IsProperAn
 fetched c w q None = tt
 fetched c w q (Some s) = either _ _ _ tt (either _ _ _ tt (either _ _ _ tt tt))
 
+added : (u : Switches) (c : Config) (w : World) (p : Option ℕ) (s : Option Session) → IsProperAnswer (add_partition u c w p s)
+added u c w p None = tt
+added u c w p (Some s) = either _ _ _ tt (either _ _ _ tt (either _ _ _ tt (either _ _ _ tt tt)))
+
 started : (u : Switches) (c : Config) (w : World) (a e : ℕ) → IsProperAnswer (start_session u c w a e)
 started u c w a e = either _ _ _ tt tt
 
@@ -91,6 +95,7 @@ proper u c w (events.BrokerRestart t p) = either _ _ _ tt tt
 proper u c w events.CoordinatorRestart = tt
 proper u c w (events.Deliver n) = delivered u c w n (slice_get w.messages n)
 proper u c w (events.TimeOut a) = either _ _ _ tt (either _ _ _ tt (delivered u c w 0 (Some (messages.End a (coord_at w a).epoch Abort))))
+proper u c w (events.AddPartition n p) = added u c w p (slice_get w.sessions n)
 
 pub proper_of : (u : Switches) (c : Config) (w v : World) (e : Event) (r : Reply) → (v, r) ≡ happens_under u c w e → IsProper r
 proper_of u c w v e r h = subst IsProper (sym (ap (λ x. x.1) h)) (proper u c w e)

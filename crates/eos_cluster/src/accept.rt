@@ -51,7 +51,7 @@ pub(crate) fn fence(switches: Switches) -> Result<bool, Reply>
 }
 
 /// The partition at a place belongs to the transaction.
-fn include(
+pub(crate) fn include(
     store: &mut Store,
     switches: Switches,
     application: usize,

@@ -5,6 +5,7 @@ ghost use Rattle.eos_machine.specs.Machine.{change_members, restart_broker, happ
 ghost use Rattle.eos_machine.specs.World.{generation_at};
 ghost use Rattle.eos_broker.specs.steps.Named.{Needs};
 
+use crate::add_partition::add_partition;
 use crate::deliver_end::time_out;
 use crate::{commit, deliver, end, feed, fetch, produce, restart, resume, start};
 use bytes::Bytes;
@@ -76,5 +77,8 @@ pub(crate) fn happen(
         }
         Event::Deliver { message } => deliver(store, switches, message),
         Event::TimeOut { application } => time_out(store, switches, application),
+        Event::AddPartition { session, partition } => {
+            add_partition(store, switches, session, partition)
+        }
     }
 }

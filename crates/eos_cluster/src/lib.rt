@@ -5,6 +5,7 @@
 #![tactic(auto)]
 
 mod accept;
+mod add_partition;
 mod breaches;
 mod cluster;
 mod deliver_end;

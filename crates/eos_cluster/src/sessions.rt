@@ -35,7 +35,7 @@ fn names_nothing(config: Config, partition: usize, claim: &Option<Claim>) -> boo
     partition >= config.outputs || topic_len(claim) > MAX_TOPIC_BYTES
 }
 
-fn is_active(session: &Session) -> bool
+pub(crate) fn is_active(session: &Session) -> bool
     ensures { result ≡ is_active session.now.ending }
 {
     session.ending.is_none()

@@ -77,6 +77,7 @@ impl Actors {
             Happening::RestartBroker => self.restart_broker(cluster, driver, rest),
             Happening::RestartCoordinator => self.restart_coordinator(cluster, driver),
             Happening::TimeOut => self.time_out(cluster, driver, rest),
+            Happening::AddPartition => self.add_partition(cluster, driver, rest),
         }
     }
 

@@ -192,6 +192,17 @@ impl Instance {
         })
     }
 
+    /// It adds a partition to its transaction, or without a number that of the offsets, where it has anything to send.
+    pub(crate) fn adding(&self, partition: Option<usize>) -> Option<Event> {
+        match self.stage {
+            Stage::Sending(_) | Stage::Waiting => Some(Event::AddPartition {
+                session: self.session,
+                partition,
+            }),
+            _ => None,
+        }
+    }
+
     // ---- what it makes of a reply
 
     /// Hears what was answered to the event that it asked for. The message that the event has queued, if it has.
@@ -289,6 +300,13 @@ impl Instance {
             Reply::Busy => {}
             Reply::EpochsSpent => self.stage = Stage::Spent,
             _ => self.stage = Stage::Away,
+        }
+    }
+
+    /// Hears what was answered where it added a partition.
+    pub(crate) fn hear_added(&mut self, reply: Reply) {
+        if reply == Reply::Fenced {
+            self.stage = Stage::Away;
         }
     }
 

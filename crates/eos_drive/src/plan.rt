@@ -13,8 +13,8 @@ use std::alloc::{AllocError, Global};
 #[derive(Drop)]
 pub(crate) struct Plan {
     config: Config,
-    /// How often the members of the first group have changed, and those of the second.
-    generations: [u64; 2],
+    /// By group: how often its members have changed.
+    generations: Vec<u64>,
     /// The number of inputs of each partition of `in`.
     ends: Vec<u64>,
     /// What the second group has read of each partition of `out`: none where there is no second group.
@@ -37,6 +37,10 @@ impl Plan {
         config: Config,
         mishaps: &[ChosenMishap],
     ) -> Result<Plan, AllocError> {
+        let mut generations = Vec::new(alloc);
+        for _ in 0..config.group_count() {
+            generations.push(0)?;
+        }
         let mut ends = Vec::new(alloc);
         for _ in 0..config.inputs {
             ends.push(0)?;
@@ -49,7 +53,7 @@ impl Plan {
         }
         Ok(Plan {
             config,
-            generations: [0, 0],
+            generations,
             ends,
             readers,
             mishaps: Mishaps::new(alloc, mishaps)?,
@@ -62,19 +66,17 @@ impl Plan {
 
     /// The generation of an application's group.
     pub(crate) fn generation_of(&self, application: usize) -> u64 {
-        if self.config.is_chained(application) {
-            self.generations[1]
-        } else {
-            self.generations[0]
+        match self.generations.get(self.config.group_of(application)) {
+            Some(generation) => *generation,
+            None => 0,
         }
     }
 
     /// The members of an application's group have changed.
     pub(crate) fn change_members(&mut self, application: usize) {
-        if self.config.is_chained(application) {
-            self.generations[1] = self.generations[1].saturating_add(1);
-        } else {
-            self.generations[0] = self.generations[0].saturating_add(1);
+        let group = self.config.group_of(application);
+        if group < self.generations.len() {
+            self.generations[group] = self.generations[group].saturating_add(1);
         }
     }
 

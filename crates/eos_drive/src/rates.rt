@@ -26,6 +26,8 @@ pub(crate) enum Happening {
     RestartCoordinator,
     /// An application's transaction has been open too long.
     TimeOut,
+    /// An application adds a partition to its transaction.
+    AddPartition,
 }
 
 /// A word: what it says happens, and a number that says to whom.
@@ -55,6 +57,8 @@ pub struct Rates {
     pub abort: Option<u16>,
     /// The coordinator aborts an application's transaction, if it is open, as having been so for too long: 0.
     pub time_out: Option<u16>,
+    /// An application adds a partition to its transaction, before it has sent anything there or after it: 0.
+    pub add_partition: Option<u16>,
 }
 
 /// A rate of a thousandth, where that of every word is 32,000: a number of which today's rates are whole ones.
@@ -79,6 +83,8 @@ const ABORT: u64 = 1000;
 
 const TIME_OUT: u64 = 0;
 
+const ADD_PARTITION: u64 = 0;
+
 /// Of the words that say nothing of these rates, in 55: 6 feed, 30 work, 17 carry, 2 are an abandoned session's.
 const FEEDS: u64 = 6;
 
@@ -99,6 +105,7 @@ impl Rates {
         restart_coordinator: None,
         abort: None,
         time_out: None,
+        add_partition: None,
     };
 }
 
@@ -132,6 +139,7 @@ impl Rates {
             + share(self.restart_coordinator, RESTART_COORDINATOR)
             + share(self.abort, ABORT)
             + share(self.time_out, TIME_OUT)
+            + share(self.add_partition, ADD_PARTITION)
     }
 
     /// What a word says.
@@ -161,7 +169,7 @@ impl Rates {
     }
 
     /// What happens at these rates, each with its share.
-    fn shares(&self) -> [(Happening, u64); 8] {
+    fn shares(&self) -> [(Happening, u64); 9] {
         [
             (Happening::Lose, share(self.lose, LOSE)),
             (Happening::Repeat, share(self.repeat, REPEAT)),
@@ -177,6 +185,10 @@ impl Rates {
             ),
             (Happening::Work { aborts: true }, share(self.abort, ABORT)),
             (Happening::TimeOut, share(self.time_out, TIME_OUT)),
+            (
+                Happening::AddPartition,
+                share(self.add_partition, ADD_PARTITION),
+            ),
         ]
     }
 }

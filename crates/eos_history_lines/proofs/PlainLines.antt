@@ -14,7 +14,7 @@ use Rattle.eos_history_lines.proofs.OnceNamed.{InOrder, put_in_order, distinct_i
 use Rattle.eos_machine.specs.declared.config.Config.{Config}
 use Rattle.eos_machine.specs.declared.item.Claim.{Claim}
 use Rattle.eos_machine.specs.declared.event.Event.{Event}
-use Rattle.eos_machine.specs.declared.event.Event.TheVariants.{Feed, Start, Produce, Commit, End, Resume, Fetch, Members, BrokerRestart, CoordinatorRestart, Deliver, TimeOut}
+use Rattle.eos_machine.specs.declared.event.Event.TheVariants.{Feed, Start, Produce, Commit, End, Resume, Fetch, Members, BrokerRestart, CoordinatorRestart, Deliver, TimeOut, AddPartition}
 use Rattle.eos_machine.specs.declared.event.Reply.{Reply}
 use Rattle.eos_machine.specs.declared.event.Reply.TheVariants as replies
 use Rattle.eos_machine.specs.declared.switches.Switches.{Switches}
@@ -27,7 +27,7 @@ use Rattle.eos_history_lines.specs.declared.line.Line.{Line}
 use Rattle.eos_history_lines.specs.declared.line.Tail.{Tail}
 use Rattle.eos_history_lines.specs.declared.line.Row.{Row}
 use Rattle.eos_history_lines.specs.declared.line.Row.TheVariants as rows
-use Rattle.eos_history_lines.specs.Lines.{count, integer, topic_value, named_if, switch_names, switches_value, with_sizes, with_asked, head_value, with_claim, claim_value, claimed, offset_or_null, with_group, with_arguments, with_event, with_value, with_reply, with_subject, with_note, with_deed, line_value, with_tail, tail_value, row_value}
+use Rattle.eos_history_lines.specs.Lines.{count, integer, topic_value, named_if, switch_names, switches_value, with_sizes, with_asked, head_value, with_claim, claim_value, claimed, offset_or_null, count_or_null, with_group, with_arguments, with_event, with_value, with_reply, with_subject, with_note, with_deed, line_value, with_tail, tail_value, row_value}
 
 -- no float, at most so deep, and each member of an object once
 pub record Flat (n : ℕ) (d : Data) : Type 0 where
@@ -193,6 +193,10 @@ offset_flat : (n : ℕ) (z : Option ℤ) → Flat n (offset_or_null z)
 offset_flat n None = record { plain = refl; shallow = omega arith; once = tt }
 offset_flat n (Some z) = integer_flat n z
 
+partition_flat : (n : ℕ) (p : Option ℕ) → Flat n (count_or_null p)
+partition_flat n None = record { plain = refl; shallow = omega arith; once = tt }
+partition_flat n (Some p) = count_flat n p
+
 one : (k : List ℕ) (m : ℕ) (ms : JsonMembers) → FlatMembers 2 ms → FlatMembers 2 (put k (count m) ms)
 one k m ms h = put_flat 2 k (count m) ms (count_flat 2 m) h
 
@@ -218,6 +222,7 @@ arguments_flat (BrokerRestart topic partition) ms h = one _ partition _ (put_fla
 arguments_flat CoordinatorRestart ms h = h
 arguments_flat (Deliver message) ms h = one _ message ms h
 arguments_flat (TimeOut application) ms h = one _ application ms h
+arguments_flat (AddPartition session partition) ms h = put_flat 2 _ _ _ (partition_flat 2 partition) (one _ session ms h)
 
 event_flat : (e : Event) (ms : JsonMembers) → FlatMembers 2 ms → FlatMembers 2 (with_event e ms)
 unfolding with_event

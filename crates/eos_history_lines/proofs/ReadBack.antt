@@ -14,7 +14,7 @@ use Rattle.serde_json.specs.View.{items_of}
 use Rattle.eos_batch.specs.declared.marker.Kind.TheVariants as kinds
 use Rattle.eos_machine.specs.declared.item.Claim.{Claim}
 use Rattle.eos_machine.specs.declared.event.Event.{Event}
-use Rattle.eos_machine.specs.declared.event.Event.TheVariants.{Feed, Start, Produce, Commit, End, Resume, Fetch, Members, BrokerRestart, CoordinatorRestart, Deliver, TimeOut}
+use Rattle.eos_machine.specs.declared.event.Event.TheVariants.{Feed, Start, Produce, Commit, End, Resume, Fetch, Members, BrokerRestart, CoordinatorRestart, Deliver, TimeOut, AddPartition}
 use Rattle.eos_machine.specs.declared.event.Reply.{Reply}
 use Rattle.eos_machine.specs.declared.event.Reply.TheVariants as replies
 use Rattle.eos_machine.specs.declared.switches.Switches.{Switches}
@@ -31,8 +31,8 @@ use Rattle.eos_history_lines.specs.declared.line.Row.{Row}
 use Rattle.eos_history_lines.specs.declared.line.Row.TheVariants as rows
 use Rattle.eos_history_lines.specs.Fits.{FitsClaim, FitsEvent, FitsNote, FitsDeed, FitsRow}
 use Rattle.eos_history_lines.specs.Words.{event_word, note_word}
-use Rattle.eos_history_lines.specs.Lines.{count, integer, topic_value, named_if, switch_names, switches_value, with_sizes, with_asked, head_value, with_claim, claim_value, claimed, offset_or_null, with_group, with_arguments, with_event, with_value, with_reply, with_subject, with_note, with_deed, line_value, with_tail, tail_value, row_value}
-use Rattle.eos_history_lines.specs.steps.Reading.{as_small, claim_in, claim_or_none, offset_or_none, event_called, group_from, event_in, reply_in, reply_from, is_text, is_named, switches_in, head_in, note_called, deed_from, deed_of, deed_in, line_in, tail_in, row_from, row_in}
+use Rattle.eos_history_lines.specs.Lines.{count, integer, topic_value, named_if, switch_names, switches_value, with_sizes, with_asked, head_value, with_claim, claim_value, claimed, offset_or_null, count_or_null, with_group, with_arguments, with_event, with_value, with_reply, with_subject, with_note, with_deed, line_value, with_tail, tail_value, row_value}
+use Rattle.eos_history_lines.specs.steps.Reading.{as_small, claim_in, claim_or_none, offset_or_none, partition_or_none, event_called, group_from, event_in, reply_in, reply_from, is_text, is_named, switches_in, head_in, note_called, deed_from, deed_of, deed_in, line_in, tail_in, row_from, row_in}
 
 -- ---- looking up what was put
 
@@ -78,6 +78,7 @@ past_arguments q (BrokerRestart topic partition) ms n = other q _ _ _ n.partitio
 past_arguments q CoordinatorRestart ms n = refl
 past_arguments q (Deliver message) ms n = other q _ _ ms n.message
 past_arguments q (TimeOut application) ms n = other q _ _ ms n.application
+past_arguments q (AddPartition session partition) ms n = other q _ _ _ n.partition ∙ other q _ _ ms n.session
 
 past_event : (q : List ℕ) (e : Event) (ms : JsonMembers) → NoArgument q → bytes_eq q (codes "event") ≡ false → get_member q (with_event e ms) ≡ get_member q ms
 unfolding with_event
@@ -147,6 +148,10 @@ offset_said : (z : Option ℤ) → IfSome z (FitsSigned w64) → offset_or_none 
 offset_said None h = refl
 offset_said (Some z) h = rw (integer_back z h) refl
 
+partition_said : (p : Option ℕ) → partition_or_none (count_or_null p) ≡ Some p
+partition_said None = refl
+partition_said (Some p) = refl
+
 members_back : (g : ℕ) (ms : JsonMembers) → get_member (codes "group") ms ≡ None → event_called (codes "members") (object (with_group g ms)) ≡ Some (Members g)
 unfolding with_group
 members_back g ms none = by (g == 0) refl
@@ -203,6 +208,14 @@ event_back (BrokerRestart topic partition) ms h none =
 event_back CoordinatorRestart ms h none = refl
 event_back (Deliver message) ms h none = rw (get_member-put (codes "message") (count message) ms) refl
 event_back (TimeOut application) ms h none = rw (get_member-put (codes "application") (count application) ms) refl
+event_back (AddPartition session partition) ms h none =
+    let one = put (codes "session") (count session) ms in
+    rw (
+      get_member-put (codes "partition") (count_or_null partition) one,
+      other (codes "session") (codes "partition") (count_or_null partition) one refl,
+      get_member-put (codes "session") (count session) ms,
+      partition_said partition,
+    ) refl
 
 event_said : (e : Event) (ms : JsonMembers) → FitsEvent e → get_member (codes "group") ms ≡ None → event_in (object (with_event e ms)) ≡ Some e
 unfolding with_event

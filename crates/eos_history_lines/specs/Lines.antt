@@ -8,7 +8,7 @@ use Rattle.serde_json.specs.View.{items_of}
 use Rattle.eos_machine.specs.declared.config.Config.{Config}
 use Rattle.eos_machine.specs.declared.item.Claim.{Claim}
 use Rattle.eos_machine.specs.declared.event.Event.{Event}
-use Rattle.eos_machine.specs.declared.event.Event.TheVariants.{Feed, Start, Produce, Commit, End, Resume, Fetch, Members, BrokerRestart, CoordinatorRestart, Deliver, TimeOut}
+use Rattle.eos_machine.specs.declared.event.Event.TheVariants.{Feed, Start, Produce, Commit, End, Resume, Fetch, Members, BrokerRestart, CoordinatorRestart, Deliver, TimeOut, AddPartition}
 use Rattle.eos_machine.specs.declared.event.Reply.{Reply}
 use Rattle.eos_machine.specs.declared.event.Reply.TheVariants as replies
 use Rattle.eos_machine.specs.declared.switches.Switches.{Switches}
@@ -84,6 +84,14 @@ abbrev pub offset_or_null : Option ℤ → Data
 offset_or_null None = null
 offset_or_null (Some z) = integer z
 
+-- null for the partition of the offsets
+abbrev pub count_or_null : Option ℕ → Data
+count_or_null None = null
+count_or_null (Some n) = count n
+
+abbrev pub with_target : ℕ → Option ℕ → JsonMembers → JsonMembers
+with_target session partition ms = put (codes "partition") (count_or_null partition) (put (codes "session") (count session) ms)
+
 -- the first group isn't named
 unfoldable pub with_group : ℕ → JsonMembers → JsonMembers
 with_group group ms = if group == 0 then ms else put (codes "group") (count group) ms
@@ -103,6 +111,7 @@ with_arguments (BrokerRestart topic partition) ms = put (codes "partition") (cou
 with_arguments CoordinatorRestart ms = ms
 with_arguments (Deliver message) ms = put (codes "message") (count message) ms
 with_arguments (TimeOut application) ms = put (codes "application") (count application) ms
+with_arguments (AddPartition session partition) ms = with_target session partition ms
 
 unfoldable pub with_event : Event → JsonMembers → JsonMembers
 with_event event ms = with_arguments event (put (codes "event") (string (event_word event)) ms)

@@ -1,10 +1,11 @@
 //! Events as members of a JSON object, and read from them.
 
-ghost use Rattle.std.specs.Prelude.{◌≡◌, IfOk, OnOk};
+ghost use Rattle.std.specs.Prelude.{◌≡◌, codes, IfOk, OnOk};
+ghost use Rattle.serde_json.specs.Data.{put as with_member};
 ghost use Rattle.serde_json.specs.View.{view};
 ghost use Rattle.eos_history_lines.specs.steps.Held.{held};
-ghost use Rattle.eos_history_lines.specs.Lines.{with_claim, claimed, offset_or_null, with_group, with_arguments, with_event};
-ghost use Rattle.eos_history_lines.specs.steps.Reading.{event_in, plain_event, event_of_session, feed_in, start_in, deliver_in, members_in, time_out_in, restart_in, produce_in, commit_in, end_in, fetch_in, claim_within, claim_in, offset_within};
+ghost use Rattle.eos_history_lines.specs.Lines.{count, with_claim, claimed, offset_or_null, count_or_null, with_group, with_target, with_arguments, with_event};
+ghost use Rattle.eos_history_lines.specs.steps.Reading.{event_in, plain_event, event_of_session, feed_in, start_in, deliver_in, members_in, time_out_in, restart_in, produce_in, commit_in, end_in, fetch_in, claim_within, claim_in, offset_within, add_in, partition_within};
 
 use crate::members::{count_in, integer_in, kind_called, size_in, small_in, text_in};
 use crate::object::Object;
@@ -30,14 +31,12 @@ fn put_arguments(alloc: Global, out: &mut Object, event: &Event) -> Result<(), A
 {
     match event {
         Event::Feed { source } => out.put_size("source", *source),
-        Event::Start { application } => out.put_size("application", *application),
         Event::Produce {
             session,
             partition,
             claim,
         } => {
-            out.put_size("session", *session)?;
-            out.put_size("partition", *partition)?;
+            put_of_session(out, *session, "partition", *partition)?;
             out.put("claim", value_of_claim(alloc, claim)?)
         }
         Event::Commit {
@@ -45,8 +44,7 @@ fn put_arguments(alloc: Global, out: &mut Object, event: &Event) -> Result<(), A
             source,
             offset,
         } => {
-            out.put_size("session", *session)?;
-            out.put_size("source", *source)?;
+            put_of_session(out, *session, "source", *source)?;
             out.put("offset", value_of_offset(*offset))
         }
         Event::End { session, kind } => {
@@ -54,10 +52,7 @@ fn put_arguments(alloc: Global, out: &mut Object, event: &Event) -> Result<(), A
             out.put_str("kind", kind_word(*kind))
         }
         Event::Resume { session } => out.put_size("session", *session),
-        Event::Fetch { session, source } => {
-            out.put_size("session", *session)?;
-            out.put_size("source", *source)
-        }
+        Event::Fetch { session, source } => put_of_session(out, *session, "source", *source),
         Event::BrokerRestart { topic, partition } => {
             out.put_topic("topic", topic.as_slice())?;
             out.put_size("partition", *partition)
@@ -65,7 +60,10 @@ fn put_arguments(alloc: Global, out: &mut Object, event: &Event) -> Result<(), A
         Event::Members { group } => put_group(out, *group),
         Event::CoordinatorRestart => Ok(()),
         Event::Deliver { message } => out.put_count("message", *message),
-        Event::TimeOut { application } => out.put_size("application", *application),
+        Event::Start { application } | Event::TimeOut { application } => {
+            out.put_size("application", *application)
+        }
+        Event::AddPartition { session, partition } => put_target(out, *session, *partition),
     }
 }
 
@@ -88,6 +86,35 @@ fn value_of_offset(offset: Option<i64>) -> Value
         Some(offset) => Value::from(offset),
         None => Value::Null,
     }
+}
+
+/// A session's number, and another one by its name.
+fn put_of_session(
+    out: &mut Object,
+    session: usize,
+    name: &str,
+    number: usize,
+) -> Result<(), AllocError>
+    ensures { OnOk result (held out.new ≡ with_member name.now (count number) (with_member (codes "session") (count session) (held out.old))) }
+{
+    out.put_size("session", session)?;
+    out.put_size(name, number)
+}
+
+fn put_target(out: &mut Object, session: usize, partition: Option<usize>) -> Result<(), AllocError>
+    ensures { OnOk result (held out.new ≡ with_target session partition (held out.old)) }
+{
+    out.put_size("session", session)?;
+    out.put("partition", value_of_partition(partition))
+}
+
+fn value_of_partition(partition: Option<usize>) -> Value
+    ensures { view result ≡ count_or_null partition }
+{
+    let Some(partition) = partition else {
+        return Value::Null;
+    };
+    Value::from(partition as u64)
 }
 
 #[tactic(auto, unfolding(crate::specs::Lines::claim_value))]
@@ -218,6 +245,8 @@ fn read_event_of_session(word: &str, value: &Value) -> Option<Event>
         Some(Event::Resume { session })
     } else if word == "fetch" {
         read_fetch(session, value)
+    } else if word == "add-partition" {
+        read_addition(session, value)
     } else {
         None
     }
@@ -247,6 +276,13 @@ fn read_fetch(session: usize, value: &Value) -> Option<Event>
 {
     let source = size_in(value, "source")?;
     Some(Event::Fetch { session, source })
+}
+
+fn read_addition(session: usize, value: &Value) -> Option<Event>
+    ensures { result ≡ add_in session (view value.now) }
+{
+    let partition = read_partition(value)?;
+    Some(Event::AddPartition { session, partition })
 }
 
 fn read_produce(alloc: Global, value: &Value) -> Result<Option<Event>, AllocError>
@@ -319,4 +355,14 @@ fn read_offset(value: &Value) -> Option<Option<i64>>
         return Some(None);
     }
     Some(Some(offset.as_i64()?))
+}
+
+fn read_partition(value: &Value) -> Option<Option<usize>>
+    ensures { result ≡ partition_within (view value.now) }
+{
+    let partition = value.get("partition")?;
+    if partition.is_null() {
+        return Some(None);
+    }
+    Some(Some(partition.as_u64()? as usize))
 }

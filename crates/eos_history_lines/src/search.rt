@@ -18,6 +18,8 @@ enum Wanted {
     Text,
     /// An integer, or null.
     Offset,
+    /// A number, or null.
+    Partition,
     /// An object, or null.
     Claim,
 }
@@ -126,6 +128,7 @@ fn arguments_of(word: &str) -> Option<&'static [(&'static str, Wanted)]> {
         "end" => &[("session", Wanted::Count), ("kind", Wanted::Kind)],
         "resume" => &[("session", Wanted::Count)],
         "fetch" => &[("session", Wanted::Count), ("source", Wanted::Count)],
+        "add-partition" => &[("session", Wanted::Count), ("partition", Wanted::Partition)],
         "broker-restart" => &[("topic", Wanted::Text), ("partition", Wanted::Count)],
         "deliver" => &[("message", Wanted::Count)],
         "members" | "coordinator-restart" => &[],
@@ -200,6 +203,10 @@ impl Wanted {
             Wanted::Offset => (
                 value.is_null() || value.is_i64(),
                 "a whole number of 64 bits",
+            ),
+            Wanted::Partition => (
+                value.is_null() || value.is_u64(),
+                "a whole number from 0 to 2^64 - 1",
             ),
             Wanted::Claim => (value.is_null() || value.is_object(), "an object"),
         }

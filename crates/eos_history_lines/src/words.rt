@@ -42,6 +42,7 @@ pub(crate) fn event_word(event: &Event) -> &'static str
         Event::CoordinatorRestart => "coordinator-restart",
         Event::Deliver { .. } => "deliver",
         Event::TimeOut { .. } => "time-out",
+        Event::AddPartition { .. } => "add-partition",
     }
 }
 

@@ -6,7 +6,7 @@ use Rattle.std.proofs.lemmas.List.Elements.{All-nil, All-cons, All-head, All-tai
 use Rattle.std.proofs.lemmas.Bool.{and_parts, or_parts, eqb-true}
 use Rattle.eos_batch.specs.declared.marker.Kind.{Kind}
 use Rattle.eos_batch.specs.declared.marker.Kind.TheVariants.{Abort}
-use Rattle.eos_machine.specs.LogIndexes.{Config, application_count, group_count, txn_index, input_index, written_index, log_count, listed}
+use Rattle.eos_machine.specs.LogIndexes.{Config, application_count, group_count, txn_index, input_index, written_index, target_index, log_count, listed}
 use Rattle.eos_machine.specs.declared.switches.Switches.{Switches}
 use Rattle.eos_machine.specs.Switching.{none}
 use Rattle.eos_machine.specs.World.{Claim, Status, Empty, Ongoing, Prepare, Complete, Entry, Item, Fed, State, Output, Offset, Marker, Coordinator, Session, Message, World, Event, fresh, opening, log_at, coord_at, generation_at, generation_of, with_item, with_coord, said_entry, written, due_markers, prepared, finished, state_of}
@@ -18,7 +18,7 @@ use Rattle.eos_machine.specs.Answers.{Answer, when, Done, Fenced}
 use Rattle.eos_machine.specs.Sessions.{last_epoch, new_session, sequence_of, after_output, after_offset, after_end, after_resume, produce, commit_offset, commit, end_session, resume_ended, resume, fetch}
 use Rattle.eos_machine.specs.Rules.{marker_epoch, marker_of}
 use Rattle.eos_machine.specs.Deliveries.{with_partition, appended, accept, fenced, marked, ticked_off, ticked, deliver}
-use Rattle.eos_machine.specs.Machine.{start_session, start, reread, due_again, queued_again, happens_under, counted, step_under, step, world_under, world_after}
+use Rattle.eos_machine.specs.Machine.{start_session, start, reread, due_again, queued_again, happens_under, add_partition, counted, step_under, step, world_under, world_after}
 use Rattle.eos_machine.specs.Bounds.{Limit, IsWithin, IsSent, IsSafe, Bounded}
 use Rattle.eos_machine.proofs.Brokers.{not_lt}
 
@@ -279,6 +279,12 @@ bounded_start n u c w a b =
     (λ t. bounded_prepared n u c w a Abort _ b (limit_ongoing (coord_at w a).status (coord_at w a).epoch t (coord_within n w a b)))
     (λ f3. bounded_session n u c w a _ b)))
 
+bounded_added : (n : ℕ) (u : Switches) (c : Config) (w : World) (p : Option ℕ) (r : Option Session) → Bounded n w → SafeIf n r → Bounded n (add_partition u c w p r).0
+bounded_added n u c w p None b h = b
+bounded_added n u c w p (Some s) b h =
+    bounded_if n _ _ _ (λ t. b) (λ f1. bounded_if n _ _ _ (λ t. b) (λ f2. bounded_if n _ _ _ (λ t. b) (λ f3. bounded_if n _ _ _ (λ t. b) (λ f4.
+    bounded_partition n u c w s.application (target_index c s.application p) b (current_low (coord_at w s.application) s.epoch (not_false _ f3) h.0)))))
+
 -- ---- the coordinator restarts
 
 last_within : (n : ℕ) (s : Coordinator) (a : ℕ) (log : List Item) → Limit s.status s.epoch → All (IsWithin n) log → Limit (last_state s (entries_of a log)).status (last_state s (entries_of a log)).epoch
@@ -341,6 +347,7 @@ bounded_event n u c w (events.TimeOut a) b =
     bounded_if (n + 1) _ _ _ (λ t. d) (λ f1. bounded_if (n + 1) _ _ _ (λ t. d) (λ f2.
     let low = limit_ongoing (coord_at w a).status (coord_at w a).epoch (not_false _ f2) (coord_within (n + 1) w a d) in
     bounded_deliver (n + 1) u c w 0 (Some (messages.End a (coord_at w a).epoch Abort)) d low))
+bounded_event n u c w (events.AddPartition m p) b = let d = bounded_more n w b in bounded_added (n + 1) u c w p (slice_get w.sessions m) d (safe_at (n + 1) w.sessions m d.sessions)
 
 pub bounded_opening : (c : Config) → Bounded 0 (opening c)
 bounded_opening c = record {

@@ -6,7 +6,7 @@ use Rattle.std.proofs.lemmas.List.Elements.{filter_map-append}
 use Rattle.std.proofs.lemmas.Bool.{cases_lt}
 use Rattle.eos_batch.specs.declared.marker.Kind.{Kind}
 use Rattle.eos_batch.specs.declared.marker.Kind.TheVariants.{Abort}
-use Rattle.eos_machine.specs.LogIndexes.{Config, txn_index, input_index, listed}
+use Rattle.eos_machine.specs.LogIndexes.{Config, txn_index, input_index, target_index, listed}
 use Rattle.eos_machine.specs.Switching.{none}
 use Rattle.eos_machine.specs.World.{Claim, Ongoing, Entry, Item, Fed, State, Marker, Message, Session, World, Event, opening, coord_at, log_at, with_item, with_coord, written, prepared, finished}
 use Rattle.eos_machine.specs.declared.state.Message.TheVariants as messages
@@ -17,7 +17,7 @@ use Rattle.eos_machine.specs.Tests.{is_ongoing, has, ongoing_partitions}
 use Rattle.eos_machine.specs.Answers.{Answer, when}
 use Rattle.eos_machine.specs.Sessions.{produce, commit_offset, commit, end_session, resume_ended, resume, fetch}
 use Rattle.eos_machine.specs.Deliveries.{with_partition, accept, ticked_off, deliver}
-use Rattle.eos_machine.specs.Machine.{step, world_after}
+use Rattle.eos_machine.specs.Machine.{add_partition, step, world_after}
 use Rattle.eos_machine.specs.steps.Machine.{happens}
 use Rattle.eos_machine.proofs.Worlds.{each}
 use Rattle.eos_machine.proofs.Resting.{no_log}
@@ -122,6 +122,10 @@ few_fetch : (n : ℕ) (c : Config) (w : World) (q : ℕ) (r : Option Session) �
 few_fetch n c w q None h = h
 few_fetch n c w q (Some s) h = few_if n _ _ _ h (few_if n _ _ _ h (few_if n _ _ _ h h))
 
+few_added : (n : ℕ) (c : Config) (w : World) (p : Option ℕ) (r : Option Session) → Few n w → Few n (add_partition none c w p r).0
+few_added n c w p None h = h
+few_added n c w p (Some s) h = few_if n _ _ _ h (few_if n _ _ _ h (few_if n _ _ _ h (few_if n _ _ _ h (few_partition n c w s.application (target_index c s.application p) h))))
+
 pub few_event : (n : ℕ) (c : Config) (w : World) (e : Event) → Few n w → Few (n + 1) (happens c w e).0
 few_event n c w (events.Feed p) h = few_if (n + 1) _ _ _ (few_more n w h) (few_item n w (input_index c p) (Fed w.events) h)
 few_event n c w (events.Start a) h =
@@ -139,6 +143,7 @@ few_event n c w (events.Deliver m) h = few_deliver n c w m (slice_get w.messages
 few_event n c w (events.TimeOut a) h =
     let d = few_more n w h in
     few_if (n + 1) _ _ _ d (few_if (n + 1) _ _ _ d (few_deliver n c w 0 (Some (messages.End a (coord_at w a).epoch Abort)) h))
+few_event n c w (events.AddPartition m p) h = few_added (n + 1) c w p (slice_get w.sessions m) (few_more n w h)
 
 -- ---- any list of events
 

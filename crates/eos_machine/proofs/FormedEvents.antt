@@ -9,7 +9,7 @@ use Rattle.std.proofs.lemmas.Bool.{or_parts}
 use Rattle.eos_batch.specs.declared.marker.Kind.{Kind}
 use Rattle.eos_batch.specs.declared.marker.Kind.TheVariants.{Abort}
 use Rattle.eos_machine.specs.declared.switches.Switches.{Switches}
-use Rattle.eos_machine.specs.LogIndexes.{Config, application_count, group_count, txn_index, input_index, written_index, listed}
+use Rattle.eos_machine.specs.LogIndexes.{Config, application_count, group_count, txn_index, input_index, written_index, target_index, listed}
 use Rattle.eos_machine.specs.World.{Claim, Status, Empty, Ongoing, Prepare, Complete, Entry, Item, Fed, State, Output, Offset, Coordinator, Session, Message, World, Event, fresh, opening, log_at, coord_at, generation_at, generation_of, with_item, with_coord, said_entry, state_of, written, due_markers, prepared, finished}
 use Rattle.eos_machine.specs.declared.state.Message.TheVariants as messages
 use Rattle.eos_machine.specs.declared.event.Event.TheVariants as events
@@ -18,7 +18,7 @@ use Rattle.eos_machine.specs.Tests.{is_ongoing, has, ongoing_partitions}
 use Rattle.eos_machine.specs.Answers.{Answer, when, Done, Fenced}
 use Rattle.eos_machine.specs.Sessions.{claimed_topic, new_session, sequence_of, after_output, after_offset, after_end, after_resume, sent, produce, commit_offset, commit, end_session, resume_ended, resume, fetch}
 use Rattle.eos_machine.specs.Deliveries.{with_partition, appended, accept, fenced, marked, ticked_off, ticked, deliver}
-use Rattle.eos_machine.specs.Machine.{start_session, start, reread, due_again, queued_again, happens_under, counted, step_under, world_under}
+use Rattle.eos_machine.specs.Machine.{start_session, start, reread, due_again, queued_again, happens_under, add_partition, counted, step_under, world_under}
 use Rattle.eos_machine.specs.Formed.{Names, IsOfOne, IsFormed}
 use Rattle.eos_machine.proofs.Brokers.{is_lt}
 
@@ -119,7 +119,7 @@ abbrev pub OneIf : Config → Option Session → Type 0
 OneIf c None = ⊤
 OneIf c (Some s) = IsOfOne c s
 
-session_at : (c : Config) (ss : List Session) (n : ℕ) → All (IsOfOne c) ss → OneIf c (slice_get ss n)
+pub session_at : (c : Config) (ss : List Session) (n : ℕ) → All (IsOfOne c) ss → OneIf c (slice_get ss n)
 session_at c [] n h = tt
 session_at c (x ∷ ss) zero h = All-head (IsOfOne c) x ss h
 session_at c (x ∷ ss) (suc n) h = session_at c ss n (All-tail (IsOfOne c) x ss h)
@@ -176,6 +176,12 @@ formed_start u c w a f = formed_if c _ _ _ f (λ f1.
     formed_if c _ _ _ f (λ f2. formed_if c _ _ _ (formed_prepared u c w a Abort (coord_at w a).partitions l f) (λ f3.
     formed_session u c w a (if (coord_at w a).started then (coord_at w a).epoch + 1 else 0) l f)))
 
+formed_added : (u : Switches) (c : Config) (w : World) (p : Option ℕ) (r : Option Session) → IsFormed c w → IsFormed c (add_partition u c w p r).0
+formed_added u c w p None f = f
+formed_added u c w p (Some s) f =
+    formed_if c _ _ _ f (λ f1. formed_if c _ _ _ f (λ f2. formed_if c _ _ _ f (λ f3. formed_if c _ _ _ f (λ f4.
+    formed_partition u c w s.application (target_index c s.application p) f))))
+
 -- ---- the coordinator restarts
 
 due_named : (c : Config) (a : ℕ) (t : Status) (e : ℕ) (ps : List ℕ) → a < application_count c → All (Names c) (due_again t a e ps)
@@ -211,6 +217,7 @@ formed_event u c w (events.Deliver n) f = formed_deliver u c w n (slice_get w.me
 formed_event u c w (events.TimeOut a) f = formed_if c _ _ _ f (λ f1.
     let l : a < application_count c = is_lt a (application_count c) (not_false _ f1) in
     formed_if c _ _ _ f (λ f2. formed_deliver u c w 0 (Some (messages.End a (coord_at w a).epoch Abort)) f l))
+formed_event u c w (events.AddPartition n p) f = formed_added u c w p (slice_get w.sessions n) f
 
 formed_counted : (c : Config) (n : ℕ) (x : Answer) → IsFormed c x.0 → IsFormed c (counted n x).0
 formed_counted c n x f = record { coordinators = f.coordinators; messages = f.messages; sessions = f.sessions; generations = f.generations }

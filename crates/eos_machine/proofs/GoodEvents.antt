@@ -11,7 +11,7 @@ use Rattle.eos_batch.specs.declared.marker.Kind.{Kind}
 use Rattle.eos_batch.specs.declared.marker.Kind.TheVariants.{Commit, Abort}
 use Rattle.eos_touch.specs.Pair.{same_kind}
 use Rattle.std.proofs.lemmas.List.{length-set}
-use Rattle.eos_machine.specs.LogIndexes.{Config, application_count, IsConfig, offsets_index, txn_index, input_index, written_index, is_sequenced, same_topic, listed}
+use Rattle.eos_machine.specs.LogIndexes.{Config, application_count, IsConfig, offsets_index, txn_index, input_index, written_index, target_index, is_sequenced, same_topic, listed}
 use Rattle.eos_machine.specs.Switching.{none}
 use Rattle.eos_machine.specs.World.{Claim, Status, Empty, Ongoing, Prepare, Complete, Entry, Item, State, Output, Offset, Marker, Coordinator, Session, Message, World, Event, log_at, fresh, coord_at, generation_of, state_of, with_item, with_coord, written, due_markers, prepared, finished}
 use Rattle.eos_machine.specs.declared.state.Message.TheVariants as messages
@@ -22,14 +22,14 @@ use Rattle.eos_machine.specs.Tests.{is_ongoing, is_prepare, has, is_nil, is_comm
 use Rattle.eos_machine.specs.Answers.{Answer, when}
 use Rattle.eos_machine.specs.Sessions.{claimed_topic, new_session, after_output, after_offset, after_end, after_resume, sent, produce, commit_offset, commit, end_session, resume_ended, resume, fetch}
 use Rattle.eos_machine.specs.Deliveries.{with_partition, accept, deliver_output, deliver_offset, deliver_end, without, ticked_off, deliver_marker, deliver}
-use Rattle.eos_machine.specs.Machine.{feed, start_session, start, reread, due_again, queued_again, restarted, counted, step, world_after}
+use Rattle.eos_machine.specs.Machine.{feed, start_session, start, reread, due_again, queued_again, restarted, add_partition, counted, step, world_after}
 use Rattle.eos_machine.specs.steps.Machine.{happens}
 use Rattle.eos_machine.specs.Rest.{decisions_of}
 use Rattle.eos_machine.proofs.Apps.{App, waited, MayBeOpen, Orders, Invariant}
 use Rattle.eos_machine.proofs.AppSteps.{IsUnder, IsSettled, Grows, IsCurrent, begun_keeps, joined_keeps, appended_keeps, decided_keeps, marked_keeps, ticked_keeps, completed_keeps, waited_keeps}
 use Rattle.eos_machine.proofs.Good.{app_of, Moves, IsPlace, IsDue, IsRead, IsKept, IsOfOne, Good}
 use Rattle.eos_machine.proofs.Worlds.{IsOf, of_output, of_offset, of_marker, good_item, good_fed, good_coord, good_written, coord_itself, app_written, after_entry, with_state, view_none, app_pushed, app_is}
-use Rattle.eos_machine.proofs.Written.{written_there}
+use Rattle.eos_machine.proofs.Written.{written_there, target_there}
 use Rattle.eos_machine.proofs.Members.{contains_none, contains_cases, contains_head, contains_tail}
 use Rattle.eos_machine.proofs.Brokers.{IsNumbered, Broker, not_lt, is_lt, above, producer_push, under, broker_batch, broker_end}
 
@@ -475,6 +475,15 @@ good_fetch : (c : Config) (w : World) (q : ℕ) (r : Option Session) → Good c 
 good_fetch c w q None g = g
 good_fetch c w q (Some s) g = good_if c _ _ _ (λ h. g) (λ f1. good_if c _ _ _ (λ h. g) (λ f2. good_if c _ _ _ (λ h. g) (λ f3. g)))
 
+good_added : (c : Config) (w : World) (p : Option ℕ) (r : Option Session) → IsConfig c → Good c w → OneIf c r → Good c (add_partition none c w p r).0
+good_added c w p None i g o = g
+good_added c w p (Some s) i g o =
+    good_if c _ _ _ (λ h. g) (λ f1.
+    let l : IsPlace c (target_index c s.application p) = target_there c s.application p (not_false _ f1) in
+    good_if c _ _ _ (λ h. g) (λ f2. good_if c _ _ _ (λ h. g) (λ f3. good_if c _ _ _ (λ h. g) (λ np.
+    good_partition c w s.application (target_index c s.application p) g (ranges c w s.application (target_index c s.application p) i g o l) l np
+    (and_parts (coord_at w s.application).started ((coord_at w s.application).epoch == s.epoch) (not_false _ f3)).0))))
+
 good_feed : (c : Config) (w : World) (p : ℕ) → Good c w → Good c (feed c w p).0
 good_feed c w p g = good_if c _ _ _ (λ h. g) (λ f.
     let l : p < c.inputs = is_lt p c.inputs (not_false _ f) in
@@ -566,6 +575,7 @@ good_event c w (events.Deliver n) i g = good_deliver c w n (slice_get w.messages
 good_event c w (events.TimeOut a) i g = good_if c _ _ _ (λ h. g) (λ f.
     let r : InRange c w a 0 = ranges c w a 0 i g (is_lt a (application_count c) (not_false _ f)) (omega arith) in
     good_if c _ _ _ (λ h. g) (λ h. good_end c w a (coord_at w a).epoch Abort g r))
+good_event c w (events.AddPartition n p) i g = good_added c w p (slice_get w.sessions n) i g (session_at c w.sessions n g.sessions)
 
 good_counted : (c : Config) (n : ℕ) (x : Answer) → Good c x.0 → Good c (counted n x).0
 good_counted c n x g = good_like c x.0 _ _ _ _ _ g g.due g.sessions

@@ -8,7 +8,7 @@ use Rattle.eos_batch.specs.declared.marker.Kind.{Kind}
 use Rattle.eos_batch.specs.declared.marker.Kind.TheVariants.{Abort}
 use Rattle.eos_machine.specs.declared.switches.Switches.{Switches}
 use Rattle.eos_machine.specs.declared.config.Config.{Config}
-use Rattle.eos_machine.specs.LogIndexes.{application_count, txn_index, input_index, written_index, offsets_index, log_count, listed}
+use Rattle.eos_machine.specs.LogIndexes.{application_count, txn_index, input_index, written_index, target_index, offsets_index, log_count, listed}
 use Rattle.eos_machine.specs.declared.item.Claim.{Claim}
 use Rattle.eos_machine.specs.declared.item.Status.{Status}
 use Rattle.eos_machine.specs.declared.item.Status.TheVariants.{Empty, Ongoing, Prepare, Complete}
@@ -29,11 +29,11 @@ use Rattle.eos_machine.specs.Tests.{is_ongoing, has, ongoing_partitions}
 use Rattle.eos_machine.specs.Answers.{Answer, when}
 use Rattle.eos_machine.specs.Sessions.{new_session, claimed_topic, sequence_of, after_output, after_offset, after_end, after_resume, sent, produce, commit_offset, commit, end_session, resume_ended, resume, fetch}
 use Rattle.eos_machine.specs.Deliveries.{with_partition, appended, accept, fenced, marked, ticked_off, ticked, without, deliver}
-use Rattle.eos_machine.specs.Machine.{start_session, start, reread, due_again, queued_again, happens_under, counted, step_under, world_under}
+use Rattle.eos_machine.specs.Machine.{start_session, start, reread, due_again, queued_again, happens_under, add_partition, counted, step_under, world_under}
 use Rattle.eos_machine.specs.Formed.{Names, IsOfOne, IsFormed}
 use Rattle.eos_machine.proofs.Brokers.{is_lt, not_lt}
-use Rattle.eos_machine.proofs.Written.{written_there, source_there}
-use Rattle.eos_machine.proofs.FormedEvents.{NamesIf, message_at}
+use Rattle.eos_machine.proofs.Written.{written_there, target_there, source_there}
+use Rattle.eos_machine.proofs.FormedEvents.{NamesIf, message_at, OneIf, session_at}
 use Rattle.eos_machine.specs.steps.Writable.{total}
 use Rattle.eos_machine.proofs.ListedPlaces.{AreListed, listed_filter, listed_more, none_listed}
 
@@ -71,6 +71,7 @@ TopicIs P (events.BrokerRestart t p) = ⊤
 TopicIs P events.CoordinatorRestart = ⊤
 TopicIs P (events.Deliver n) = ⊤
 TopicIs P (events.TimeOut a) = ⊤
+TopicIs P (events.AddPartition n p) = ⊤
 
 -- ---- parts
 
@@ -282,6 +283,13 @@ kept_start P c n u w a m h =
     kept_if P c (n + 1) _ _ _ d (λ f2. kept_if P c (n + 1) _ _ _ (kept_prepared P c n u w a Abort (coord_at w a).partitions l m (coord_kept P c n w a h) h) (λ f3.
     kept_session P c n u w a _ l m h)))
 
+kept_added : (P : List ℕ → Type 0) (c : Config) (n : ℕ) (u : Switches) (w : World) (p : Option ℕ) (r : Option Session) → w.events < 2 ^ 31 → Kept P c n w → OneIf c r → Kept P c (n + 1) (add_partition u c w p r).0
+kept_added P c n u w p None m h o = kept_more P c n (n + 1) w (omega arith) h
+kept_added P c n u w p (Some s) m h o =
+    let d = kept_more P c n (n + 1) w (omega arith) h in
+    kept_if P c (n + 1) _ _ _ d (λ f1. kept_if P c (n + 1) _ _ _ d (λ f2. kept_if P c (n + 1) _ _ _ d (λ f3. kept_if P c (n + 1) _ _ _ d (λ f4.
+    kept_partition P c n u w s.application (target_index c s.application p) o m (target_there c s.application p (not_false _ f1)) h))))
+
 -- ---- the coordinator restarts
 
 last_kept : (P : List ℕ → Type 0) (c : Config) (s : Coordinator) (a : ℕ) (log : List Item) → AreListed c s.partitions → All (KeptItem P c) log → AreListed c (last_state s (entries_of a log)).partitions
@@ -336,3 +344,5 @@ kept_event P c k u w (events.TimeOut a) n f t h =
     kept_if P c (k + 2) _ _ _ d (λ f1.
     let l : a < application_count c = is_lt a (application_count c) (not_false _ f1) in
     kept_if P c (k + 2) _ _ _ d (λ f2. kept_deliver P c k u w 0 (Some (messages.End a (coord_at w a).epoch Abort)) n h l tt))
+kept_event P c k u w (events.AddPartition m p) n f t h =
+    kept_more P c (k + 1) (k + 2) _ (omega arith) (kept_added P c k u w p (slice_get w.sessions m) n h (session_at c w.sessions m f.sessions))

@@ -1,8 +1,8 @@
 -- What an application writes and reads is there.
-use Rattle.std.proofs.Common.{◌≡◌, ℕ, ◌+◌, ◌<◌, ◌≤◌, ◌==◌, ◌&&◌, Bool, true, false, sym, subst, arith, if◌then◌else◌}
+use Rattle.std.proofs.Common.{◌≡◌, ℕ, ◌+◌, ◌<◌, ◌≤◌, ◌==◌, ◌&&◌, Bool, true, false, Option, Some, None, sym, subst, arith, if◌then◌else◌}
 use Rattle.std.specs.Prelude.{nat_le, nat_lt}
 use Rattle.std.proofs.lemmas.Bool.{and_parts}
-use Rattle.eos_machine.specs.LogIndexes.{Config, IsConfig, application_count, final_count, is_chained, is_source, final_index, output_index, log_count, written_index}
+use Rattle.eos_machine.specs.LogIndexes.{Config, IsConfig, application_count, final_count, is_chained, is_source, final_index, output_index, log_count, written_index, is_target, target_index}
 use Rattle.eos_machine.proofs.Brokers.{is_lt}
 
 -- a partition that an application writes comes after the internal ones
@@ -21,6 +21,10 @@ written_there c a p l = by c.chain (a == c.applications)
     by true true = omega (arith, l)
     by true false = omega (arith, l)
     by false u = omega (arith, l)
+
+pub target_there : (c : Config) (a : ℕ) (p : Option ℕ) → is_target c p ≡ true → target_index c a p < log_count c
+target_there c a None h = omega arith
+target_there c a (Some p) h = written_there c a p (is_lt p c.outputs h)
 
 pub source_there : (c : Config) (a q : ℕ) → is_source c a q ≡ true → q < c.inputs + c.outputs
 source_there c a q h = by (is_chained c a) h

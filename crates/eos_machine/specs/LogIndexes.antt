@@ -1,5 +1,5 @@
 -- The partitions of a cluster, as indexes in its list of logs: by the bytes of their topics, then by number.
-use Rattle.std.specs.Prelude.{ℕ, ◌+◌, ◌-◌, ◌%◌, ◌≤◌, ◌==◌, nat_lt, nat_le, Bool, not, ◌&&◌, ◌||◌, List, [], ◌∷◌, codes, nat_eq, if◌then◌else◌}
+use Rattle.std.specs.Prelude.{ℕ, ◌+◌, ◌-◌, ◌%◌, ◌≤◌, ◌==◌, nat_lt, nat_le, Bool, true, not, ◌&&◌, ◌||◌, List, [], ◌∷◌, codes, nat_eq, Option, Some, None, if◌then◌else◌}
 use Rattle.std.specs.List.{list_any}
 use Rattle.std.specs.Cmp.Lexicographic.{pointwise}
 use Rattle.eos_touch.specs.Pair.{same_bool}
@@ -63,6 +63,15 @@ log_count c = 1 + c.transaction_logs + final_count c + c.inputs + c.outputs
 -- the partition of this number of the topic that an application writes
 abbrev pub written_index : Config → ℕ → ℕ → ℕ
 written_index c a p = if is_chained c a then final_index c p else output_index c p
+
+-- a transaction may write to these: the partition of this number of that topic, and that of the offsets, which has none here
+abbrev pub is_target : Config → Option ℕ → Bool
+is_target c None = true
+is_target c (Some p) = nat_lt p c.outputs
+
+abbrev pub target_index : Config → ℕ → Option ℕ → ℕ
+target_index c a None = offsets_index
+target_index c a (Some p) = written_index c a p
 
 -- an odd partition of `out`
 abbrev pub is_odd_output : Config → ℕ → Bool

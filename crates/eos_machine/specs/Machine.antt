@@ -1,17 +1,17 @@
 -- What happens to a cluster: each event's effect and reply under any switches, and any list of events.
-use Rattle.std.specs.Prelude.{ℕ, ◌+◌, ◌^◌, ◌==◌, nat_lt, not, List, [], ◌∷◌, ◌++◌, map, length, slice_get, if◌then◌else◌}
+use Rattle.std.specs.Prelude.{ℕ, ◌+◌, ◌^◌, ◌==◌, nat_lt, not, List, [], ◌∷◌, ◌++◌, map, length, slice_get, Option, Some, None, if◌then◌else◌}
 use Rattle.std.specs.List.{flat_map, range_with_len}
 use Rattle.eos_batch.specs.declared.marker.Kind.TheVariants.{Abort}
 use Rattle.eos_machine.specs.declared.switches.Switches.{Switches}
 use Rattle.eos_machine.specs.Switching.{none}
-use Rattle.eos_machine.specs.LogIndexes.{Config, application_count, group_count, txn_index, input_index, is_partition}
-use Rattle.eos_machine.specs.World.{World, Status, Empty, Ongoing, Prepare, Complete, Fed, Coordinator, Message, Event, Reply, fresh, coord_at, generation_at, generation_of, log_at, with_item, with_messages, with_sessions, with_generation, written, due_markers, prepared}
+use Rattle.eos_machine.specs.LogIndexes.{Config, application_count, group_count, txn_index, input_index, is_partition, is_target, target_index}
+use Rattle.eos_machine.specs.World.{World, Status, Empty, Ongoing, Prepare, Complete, Fed, Coordinator, Session, Message, Event, Reply, fresh, coord_at, generation_at, generation_of, log_at, with_item, with_messages, with_sessions, with_generation, written, due_markers, prepared}
 use Rattle.eos_machine.specs.declared.event.Event.TheVariants as events
 use Rattle.eos_machine.specs.Logs.{entries_of, last_state}
-use Rattle.eos_machine.specs.Tests.{is_ongoing, is_prepare}
-use Rattle.eos_machine.specs.Answers.{Answer, when, Done, WrongState, Busy, EpochsSpent, Unknown, Full}
+use Rattle.eos_machine.specs.Tests.{is_active, is_current, is_ongoing, is_prepare}
+use Rattle.eos_machine.specs.Answers.{Answer, when, Done, Fenced, WrongState, Busy, EpochsSpent, Unknown, Full}
 use Rattle.eos_machine.specs.Sessions.{last_epoch, new_session, produce, commit, end_session, resume, fetch}
-use Rattle.eos_machine.specs.Deliveries.{deliver_end, deliver}
+use Rattle.eos_machine.specs.Deliveries.{with_partition, deliver_end, deliver}
 
 abbrev pub feed : Config → World → ℕ → Answer
 feed c w p =
@@ -41,6 +41,18 @@ time_out u c w a =
     when (not (nat_lt a (application_count c))) (w, Unknown) (
     when (not (is_ongoing (coord_at w a).status)) (w, WrongState) (
     deliver_end u c w a (coord_at w a).epoch Abort))
+
+-- ---- a session adds a partition to its transaction, before a batch of it comes there (KIP-98, AddPartitionsToTxnRequest and
+-- AddOffsetsToTxnRequest)
+
+abbrev pub add_partition : Switches → Config → World → Option ℕ → Option Session → Answer
+add_partition u c w p None = (w, Unknown)
+add_partition u c w p (Some s) =
+    when (not (is_target c p)) (w, Unknown) (
+    when (not (is_active s.ending)) (w, WrongState) (
+    when (not (is_current (coord_at w s.application) s.epoch)) (w, Fenced) (
+    when (is_prepare (coord_at w s.application).status) (w, Busy) (
+    (with_partition u c w s.application (target_index c s.application p), Done 0)))))
 
 -- ---- the coordinator restarts: states are read from the log, and the end markers of prepared ones are queued again
 
@@ -89,6 +101,7 @@ happens_under u c w (events.BrokerRestart t p) = restart_broker c w t p
 happens_under u c w events.CoordinatorRestart = (restarted c w, Done 0)
 happens_under u c w (events.Deliver n) = deliver u c w n (slice_get w.messages n)
 happens_under u c w (events.TimeOut a) = time_out u c w a
+happens_under u c w (events.AddPartition n p) = add_partition u c w p (slice_get w.sessions n)
 
 -- an event was taken
 abbrev pub counted : ℕ → Answer → Answer

@@ -82,6 +82,31 @@ pub record TimesOut : Type 0 where
       ∷ State 0 (record { status = Complete Abort; epoch = 1; partitions = [] }) 8
       ∷ State 0 (record { status = Empty; epoch = 2; partitions = [] }) 12 ∷ []
 
+-- partitions are added before data come: each is listed once and has its end marker, with data or without
+abbrev pub adding : List Event
+adding =
+    events.Start 0 ∷ events.AddPartition 0 (Some 1) ∷ events.Produce 0 0 claim ∷ events.AddPartition 0 (Some 0) ∷ events.AddPartition 0 (Some 0) ∷ events.Deliver 0 ∷ events.AddPartition 0 None
+    ∷ events.AddPartition 0 (Some 2) ∷ events.AddPartition 1 None ∷ events.End 0 Commit ∷ events.AddPartition 0 None ∷ events.Deliver 1 ∷ events.Deliver 2 ∷ events.Deliver 3 ∷ events.Deliver 4
+    ∷ events.Resume 0 ∷ events.AddPartition 0 None ∷ events.Start 0 ∷ events.AddPartition 0 None ∷ events.Deliver 5 ∷ []
+
+pub record Adds : Type 0 where
+  pub replies : Answers pair adding
+      (Done 0 ∷ Done 0 ∷ Done 0 ∷ Done 0 ∷ Done 0 ∷ Done 0 ∷ Done 0
+      ∷ Unknown ∷ Unknown ∷ Done 1 ∷ WrongState ∷ Done 2 ∷ Done 0 ∷ Done 1 ∷ Done 0
+      ∷ Done 1 ∷ Done 0 ∷ Busy ∷ Fenced ∷ Done 1 ∷ [])
+  pub empty : log_at (after pair adding) 5 ≡ Marker 0 1 Commit 12 ∷ []
+  pub output : log_at (after pair adding) 4 ≡ Output 0 0 0 claim 2 5 ∷ Marker 0 1 Commit 13 ∷ []
+  pub offsets : log_at (after pair adding) 0 ≡ Marker 0 1 Commit 14 ∷ Marker 0 2 Abort 19 ∷ []
+  pub states : log_at (after pair adding) 1 ≡ State 0 (record { status = Empty; epoch = 0; partitions = [] }) 0
+      ∷ State 0 (record { status = Ongoing; epoch = 0; partitions = 5 ∷ [] }) 1
+      ∷ State 0 (record { status = Ongoing; epoch = 0; partitions = 5 ∷ 4 ∷ [] }) 3
+      ∷ State 0 (record { status = Ongoing; epoch = 0; partitions = 5 ∷ 4 ∷ 0 ∷ [] }) 6
+      ∷ State 0 (record { status = Prepare Commit; epoch = 1; partitions = 5 ∷ 4 ∷ 0 ∷ [] }) 11
+      ∷ State 0 (record { status = Complete Commit; epoch = 1; partitions = [] }) 14
+      ∷ State 0 (record { status = Ongoing; epoch = 1; partitions = 0 ∷ [] }) 16
+      ∷ State 0 (record { status = Prepare Abort; epoch = 2; partitions = 0 ∷ [] }) 17
+      ∷ State 0 (record { status = Complete Abort; epoch = 2; partitions = [] }) 19 ∷ []
+
 -- an offset is committed: while its transaction is open nobody fetches it, and another generation of the group never does
 abbrev pub fetching : List Event
 fetching =

@@ -64,6 +64,12 @@ pub enum Event {
     TimeOut {
         application: usize,
     },
+    /// A session adds a partition to its transaction, before a batch of it comes there: one of the topic that its group writes, or
+    /// without a number that of the offsets (KIP-98, AddPartitionsToTxnRequest and AddOffsetsToTxnRequest).
+    AddPartition {
+        session: usize,
+        partition: Option<usize>,
+    },
 }
 
 /// What a cluster answers.

@@ -42,6 +42,7 @@ one_topic (events.BrokerRestart t p) h = tt
 one_topic events.CoordinatorRestart h = tt
 one_topic (events.Deliver n) h = tt
 one_topic (events.TimeOut a) h = tt
+one_topic (events.AddPartition n p) h = tt
 
 item_bytes : (c : Config) (x : Item) → KeptItem IsBytes c x → HasBytes x
 item_bytes c (Fed n) h = tt

@@ -6,7 +6,7 @@ use Rattle.std.proofs.lemmas.List.Elements.{All-nil, All-push}
 use Rattle.eos_batch.specs.declared.marker.Kind.{Kind}
 use Rattle.eos_batch.specs.declared.marker.Kind.TheVariants.{Abort}
 use Rattle.eos_machine.specs.declared.config.Config.{Config}
-use Rattle.eos_machine.specs.LogIndexes.{txn_index, input_index, written_index, offsets_index, log_count, listed}
+use Rattle.eos_machine.specs.LogIndexes.{txn_index, input_index, written_index, offsets_index, log_count, listed, target_index}
 use Rattle.eos_machine.specs.declared.item.Claim.{Claim}
 use Rattle.eos_machine.specs.declared.item.Status.{Status}
 use Rattle.eos_machine.specs.declared.item.Entry.{Entry}
@@ -25,7 +25,7 @@ use Rattle.eos_machine.specs.Answers.{Answer, when}
 use Rattle.eos_machine.specs.Sessions.{produce, commit_offset, commit, end_session, resume_ended, resume, fetch}
 use Rattle.eos_machine.specs.Deliveries.{with_partition, accept, ticked_off, deliver}
 use Rattle.eos_machine.proofs.Written.{written_after}
-use Rattle.eos_machine.specs.Machine.{start_session, start, counted, step, world_after}
+use Rattle.eos_machine.specs.Machine.{start_session, start, counted, step, world_after, add_partition}
 use Rattle.eos_machine.specs.steps.Machine.{happens}
 
 -- a state stands in the transaction log of its application, data elsewhere
@@ -129,6 +129,10 @@ placed_fetch : (c : Config) (w : World) (q : ℕ) (r : Option Session) → Place
 placed_fetch c w q None h = h
 placed_fetch c w q (Some s) h = placed_if c _ _ _ h (placed_if c _ _ _ h (placed_if c _ _ _ h h))
 
+placed_added : (c : Config) (w : World) (p : Option ℕ) (r : Option Session) → Placed c w → Placed c (add_partition none c w p r).0
+placed_added c w p None h = h
+placed_added c w p (Some s) h = placed_if c _ _ _ h (placed_if c _ _ _ h (placed_if c _ _ _ h (placed_if c _ _ _ h (placed_partition c w s.application (target_index c s.application p) h))))
+
 placed_event : (c : Config) (w : World) (e : Event) → Placed c w → Placed c (happens c w e).0
 placed_event c w (events.Feed p) h = placed_if c _ _ _ h (placed_item c w (input_index c p) (Fed w.events) h (omega arith))
 placed_event c w (events.Start a) h = placed_start c w a h
@@ -142,6 +146,7 @@ placed_event c w (events.BrokerRestart t p) h = placed_if c _ _ _ h h
 placed_event c w events.CoordinatorRestart h = h
 placed_event c w (events.Deliver m) h = placed_deliver c w m (slice_get w.messages m) h
 placed_event c w (events.TimeOut a) h = placed_if c _ _ _ h (placed_if c _ _ _ h (placed_deliver c w 0 (Some (messages.End a (coord_at w a).epoch Abort)) h))
+placed_event c w (events.AddPartition m p) h = placed_added c w p (slice_get w.sessions m) h
 
 pub placed_run : (c : Config) (w : World) (es : List Event) → Placed c w → Placed c (world_after c w es)
 placed_run c w [] h = h

@@ -63,6 +63,7 @@ event_labels s number (events.BrokerRestart t p) reply = []
 event_labels s number events.CoordinatorRestart reply = []
 event_labels s number (events.Deliver n) reply = answer_labels s number n reply
 event_labels s number (events.TimeOut a) reply = []
+event_labels s number (events.AddPartition n p) reply = []
 
 -- a mishap, and what the network lost and repeated
 abbrev pub wrong_note : Note → Wrong

@@ -25,6 +25,7 @@ SendsBytes (events.BrokerRestart t p) = ⊤
 SendsBytes events.CoordinatorRestart = ⊤
 SendsBytes (events.Deliver n) = ⊤
 SendsBytes (events.TimeOut a) = ⊤
+SendsBytes (events.AddPartition n p) = ⊤
 
 -- there is evidence of these logs
 pub record LeavesEvidence (c : Config) (w : World) : Type 0 where

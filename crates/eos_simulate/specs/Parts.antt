@@ -41,6 +41,7 @@ unnamed (events.BrokerRestart t p) = events.BrokerRestart t p
 unnamed events.CoordinatorRestart = events.CoordinatorRestart
 unnamed (events.Deliver n) = events.Deliver 0
 unnamed (events.TimeOut a) = events.TimeOut a
+unnamed (events.AddPartition n p) = events.AddPartition 0 p
 
 abbrev pub unnamed_note : SaidNote → SaidNote
 unnamed_note (notes.Lost message) = notes.Lost 0

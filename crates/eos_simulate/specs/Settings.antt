@@ -36,6 +36,7 @@ rates_said r = record {
   restart_coordinator = rate_said r.restart_coordinator;
   abort = rate_said r.abort;
   time_out = rate_said r.time_out;
+  add_partition = rate_said r.add_partition;
 }
 
 -- a cluster of these sizes has something in which this rule is broken

@@ -70,6 +70,7 @@ each_rate_drawn given ws = record {
   restart_coordinator = rate_drawn given.restart_coordinator (word_at ws 12);
   abort = rate_drawn given.abort (word_at ws 13);
   time_out = given.time_out;
+  add_partition = given.add_partition;
 }
 
 -- only rates that fit are drawn

@@ -241,6 +241,7 @@ pub(crate) fn rates_of(words: &Thousandths) -> Rates
         restart_coordinator: rate_of(words.restart_coordinator),
         abort: rate_of(words.abort),
         time_out: rate_of(words.time_out),
+        add_partition: rate_of(words.add_partition),
     }
 }
 

@@ -37,6 +37,7 @@ pub fn sends_bytes(event: &Event)
         Event::CoordinatorRestart => {}
         Event::Deliver { .. } => {}
         Event::TimeOut { .. } => {}
+        Event::AddPartition { .. } => {}
     }
 }
 

@@ -150,7 +150,8 @@ fn push_event(
         | Event::Members { .. }
         | Event::BrokerRestart { .. }
         | Event::CoordinatorRestart
-        | Event::TimeOut { .. } => Ok(()),
+        | Event::TimeOut { .. }
+        | Event::AddPartition { .. } => Ok(()),
     }
 }
 

@@ -113,7 +113,8 @@ impl Names {
             | Event::Commit { session, .. }
             | Event::End { session, .. }
             | Event::Resume { session }
-            | Event::Fetch { session, .. } => match self.session(*session) {
+            | Event::Fetch { session, .. }
+            | Event::AddPartition { session, .. } => match self.session(*session) {
                 Some(session) => self.of_session(event, session),
                 None => Ok(None),
             },
@@ -149,6 +150,10 @@ impl Names {
             Event::Fetch { source, .. } => Ok(Some(Event::Fetch {
                 session,
                 source: *source,
+            })),
+            Event::AddPartition { partition, .. } => Ok(Some(Event::AddPartition {
+                session,
+                partition: *partition,
             })),
             Event::Feed { .. }
             | Event::Start { .. }

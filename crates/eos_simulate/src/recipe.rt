@@ -75,7 +75,8 @@ fn push_rates(alloc: Global, said: &mut Vec<Value>, rates: Thousandths) -> Resul
         rates.restart_coordinator,
     )?;
     push_number(alloc, said, "--abort", rates.abort)?;
-    push_number(alloc, said, "--time-out", rates.time_out)
+    push_number(alloc, said, "--time-out", rates.time_out)?;
+    push_number(alloc, said, "--add-partition", rates.add_partition)
 }
 
 fn push_number(

@@ -94,7 +94,8 @@ impl Side {
             | Event::Resume { .. }
             | Event::Fetch { .. }
             | Event::Members { .. }
-            | Event::BrokerRestart { .. } => {}
+            | Event::BrokerRestart { .. }
+            | Event::AddPartition { .. } => {}
             Event::CoordinatorRestart | Event::Deliver { .. } | Event::TimeOut { .. } => {
                 self.count_markers();
             }

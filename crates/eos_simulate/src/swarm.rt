@@ -170,6 +170,7 @@ fn each_rate_drawn(given: Thousandths, draws: &[u32]) -> Thousandths
         restart_coordinator: rate_drawn(given.restart_coordinator, word_at(draws, 12)),
         abort: rate_drawn(given.abort, word_at(draws, 13)),
         time_out: given.time_out,
+        add_partition: given.add_partition,
     }
 }
 

@@ -17,8 +17,8 @@ pub(crate) struct Argument {
 pub(crate) enum Presence {
     Required,
     Optional,
-    /// Not this one; and beside it none of these may stand, of which one that has to be there may then be left out.
-    Without(&'static [&'static str]),
+    /// Not this one; and beside it none of these may stand, list by list, of which one that has to be there may then be left out.
+    Without(&'static [&'static [&'static str]]),
 }
 
 /// How an argument is written, with what help shows for its value.

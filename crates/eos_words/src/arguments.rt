@@ -155,7 +155,7 @@ static EXPLAIN_ARGUMENTS: [Argument; 4] = [
     Argument {
         name: "code",
         help: "The code of a kind of fault, such as 5.10, or its name",
-        presence: Presence::Without(EXPLAINED),
+        presence: Presence::Without(&[EXPLAINED]),
         form: Form::Valued("CODE", ValueParser::String),
     },
     FAULT,
@@ -229,7 +229,7 @@ static FOLD_ARGUMENTS: [Argument; 4] = [
     Argument {
         name: "verify",
         help: "Compares the folds in FOLDER with logs, and writes none",
-        presence: Presence::Without(FOLDED),
+        presence: Presence::Without(&[FOLDED]),
         form: Form::Valued("FOLDER", ValueParser::NonEmptyString),
     },
     Argument {

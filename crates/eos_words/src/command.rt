@@ -147,7 +147,13 @@ fn make_argument<'a>(alloc: Global, it: &Argument) -> Result<Arg<'a>, AllocError
     match it.presence {
         Presence::Required => Ok(argument.required(true)),
         Presence::Optional => Ok(argument),
-        Presence::Without(others) => argument.conflicts_with_all(others),
+        Presence::Without(lists) => {
+            let mut argument = argument;
+            for others in lists {
+                argument = argument.conflicts_with_all(others)?;
+            }
+            Ok(argument)
+        }
     }
 }
 

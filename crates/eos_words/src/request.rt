@@ -173,6 +173,7 @@ pub struct Thousandths {
     pub restart_coordinator: Option<u64>,
     pub abort: Option<u64>,
     pub time_out: Option<u64>,
+    pub add_partition: Option<u64>,
 }
 
 /// By which schedules a tiny simulated cluster is run.

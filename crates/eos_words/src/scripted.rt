@@ -89,5 +89,6 @@ fn read_rates(inner: &ArgMatches<'_>) -> Thousandths {
         restart_coordinator: inner.get_one::<u64>("restart-coordinator"),
         abort: inner.get_one::<u64>("abort"),
         time_out: inner.get_one::<u64>("time-out"),
+        add_partition: inner.get_one::<u64>("add-partition"),
     }
 }

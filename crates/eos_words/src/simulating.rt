@@ -13,8 +13,9 @@ const SWITCHES: &[&str] = &[
     "ignore-generation",
 ];
 
-/// What a schedule says already.
-const SCHEDULED: &[&str] = &[
+/// What a script is drawn from and how, but for the switches: a schedule says it already, and where all schedules are run it
+/// is chosen, or isn't made.
+const SCRIPTED: &[&str] = &[
     "seed",
     "events",
     "applications",
@@ -32,7 +33,7 @@ const SCHEDULED: &[&str] = &[
     "restart-coordinator",
     "abort",
     "time-out",
-    "switch",
+    "add-partition",
     "switch-at",
     "no-tail",
     "mishap",
@@ -42,40 +43,10 @@ const SCHEDULED: &[&str] = &[
 /// What each of several folders has of its own, or can't have.
 const SINGLE: &[&str] = &["history", "labels", "schedule"];
 
-/// What is chosen already where all schedules are run, or isn't made.
-const CHOSEN: &[&str] = &[
-    "seed",
-    "events",
-    "applications",
-    "inputs",
-    "outputs",
-    "transaction-logs",
-    "segment-records",
-    "batch-records",
-    "chain",
-    "lose",
-    "repeat",
-    "abandon",
-    "members",
-    "restart-broker",
-    "restart-coordinator",
-    "abort",
-    "time-out",
-    "switch-at",
-    "no-tail",
-    "mishap",
-    "stop-anywhere",
-    "collect",
-    "history",
-    "labels",
-    "schedule",
-    "count",
-    "swarm",
-    "progress",
-    "folder",
-];
+/// What else is made of a script, and how it is told.
+const MADE: &[&str] = &["stop-anywhere", "collect", "count", "progress", "folder"];
 
-static SIMULATE_ARGUMENTS: [Argument; 31] = [
+static SIMULATE_ARGUMENTS: [Argument; 32] = [
     Argument {
         name: "seed",
         help: "What the script is drawn from, 0 to 2^64 - 1",
@@ -179,6 +150,12 @@ static SIMULATE_ARGUMENTS: [Argument; 31] = [
         form: Form::Valued("RATE", ValueParser::Unsigned(0, 1000)),
     },
     Argument {
+        name: "add-partition",
+        help: "Words, of 1000, by which one is added to a transaction",
+        presence: Presence::Optional,
+        form: Form::Valued("RATE", ValueParser::Unsigned(0, 1000)),
+    },
+    Argument {
         name: "switch",
         help: "A rule that the cluster breaks; may be repeated",
         presence: Presence::Optional,
@@ -229,13 +206,13 @@ static SIMULATE_ARGUMENTS: [Argument; 31] = [
     Argument {
         name: "schedule",
         help: "Runs the lines of such a file, in place of a script",
-        presence: Presence::Without(SCHEDULED),
+        presence: Presence::Without(&[SCRIPTED, &["switch"]]),
         form: Form::Valued("FILE", ValueParser::NonEmptyString),
     },
     Argument {
         name: "count",
         help: "So many folders in FOLDER, of the seeds from S on",
-        presence: Presence::Without(SINGLE),
+        presence: Presence::Without(&[SINGLE]),
         form: Form::Valued("N", ValueParser::Unsigned(1, 999_999)),
     },
     Argument {
@@ -247,7 +224,7 @@ static SIMULATE_ARGUMENTS: [Argument; 31] = [
     Argument {
         name: "every",
         help: "Runs each schedule of at most N words, 0 to 8, and checks it",
-        presence: Presence::Without(CHOSEN),
+        presence: Presence::Without(&[SCRIPTED, SINGLE, MADE]),
         form: Form::Valued("N", ValueParser::Unsigned(0, 8)),
     },
     Argument {
@@ -288,9 +265,10 @@ that all of it was written; `eoscheck check FOLDER` then says yes, and
 
 A RATE is how many of 1000 words say it. One that is not given is as ever: lose
 15.625, repeat 62.5, abandon 7.8125, members 3.90625, restart-broker 7.8125,
-restart-coordinator 11.71875, abort 31.25, time-out 0. All eight come to 1000 at
-most. At a time-out the coordinator aborts an application's open transaction,
-and its producer is fenced.
+restart-coordinator 11.71875, abort 31.25, time-out and add-partition 0. All
+nine come to 1000 at most. At a time-out the coordinator aborts an application's
+open transaction, and its producer is fenced. With add-partition a partition is
+listed before a record comes there, or without one.
 
 With --chain there is a second group, of one application: it reads what stands
 committed in `out`, and writes `fin`, which has as many partitions. The manifest

@@ -6,7 +6,7 @@ use Rattle.eos_batch.specs.declared.marker.Kind.{Kind}
 use Rattle.eos_batch.specs.declared.marker.Kind.TheVariants as kinds
 use Rattle.eos_machine.specs.declared.item.Claim.{Claim}
 use Rattle.eos_machine.specs.declared.event.Event.{Event}
-use Rattle.eos_machine.specs.declared.event.Event.TheVariants.{Feed, Start, Produce, Commit, End, Resume, Fetch, Members, BrokerRestart, CoordinatorRestart, Deliver, TimeOut}
+use Rattle.eos_machine.specs.declared.event.Event.TheVariants.{Feed, Start, Produce, Commit, End, Resume, Fetch, Members, BrokerRestart, CoordinatorRestart, Deliver, TimeOut, AddPartition}
 use Rattle.eos_machine.specs.declared.event.Reply.{Reply}
 use Rattle.eos_machine.specs.declared.event.Reply.TheVariants as replies
 use Rattle.eos_machine.specs.declared.switches.Switches.{Switches}
@@ -102,12 +102,23 @@ end_in session d = option_map (λ kind. End session kind) (option_and_then kind_
 abbrev pub fetch_in : ℕ → Data → Option Event
 fetch_in session d = option_map (λ source. Fetch session source) (count_in (codes "source") d)
 
+-- null says the partition of the offsets
+abbrev pub partition_or_none : Data → Option (Option ℕ)
+partition_or_none d = if is_some (as_null d) then Some None else option_map (λ p. Some p) (option_and_then as_u64 (as_number d))
+
+abbrev pub partition_within : Data → Option (Option ℕ)
+partition_within d = option_and_then partition_or_none (get (codes "partition") d)
+
+abbrev pub add_in : ℕ → Data → Option Event
+add_in session d = option_map (λ partition. AddPartition session partition) (partition_within d)
+
 abbrev pub event_of : List ℕ → ℕ → Data → Option Event
 event_of word session d =
     if bytes_eq word (codes "commit") then commit_in session d
     else (if bytes_eq word (codes "end") then end_in session d
     else (if bytes_eq word (codes "resume") then Some (Resume session)
-    else (if bytes_eq word (codes "fetch") then fetch_in session d else None)))
+    else (if bytes_eq word (codes "fetch") then fetch_in session d
+    else (if bytes_eq word (codes "add-partition") then add_in session d else None))))
 
 abbrev pub event_of_session : List ℕ → Data → Option Event
 event_of_session word d = option_and_then (λ session. event_of word session d) (count_in (codes "session") d)

@@ -1,4 +1,4 @@
-use Rattle.eos_machine.proofs.Computed.{commits, restarts, fences, times_out, fetches, omits, lists, chains, rebalances}
+use Rattle.eos_machine.proofs.Computed.{commits, restarts, fences, times_out, adds, fetches, omits, lists, chains, rebalances}
 use Rattle.eos_machine.proofs.laws.schedules.Goals as goal
 
 pub returns-clause-commits : goal.returns-clause-commits
@@ -12,6 +12,9 @@ returns-clause-fences c = fences
 
 pub returns-clause-times_out : goal.returns-clause-times_out
 returns-clause-times_out c = times_out
+
+pub returns-clause-adds : goal.returns-clause-adds
+returns-clause-adds c = adds
 
 pub returns-clause-fetches : goal.returns-clause-fetches
 returns-clause-fetches c = fetches
