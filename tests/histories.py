@@ -26,7 +26,7 @@ import tempfile
 
 SWITCHES = ["keep-duplicates", "no-fence", "no-bump", "lose-marker", "swap-marker", "hide-listing", "ignore-generation"]
 MISHAPS = ["lost-output", "repeated-output", "wrong-count", "wrong-number", "foreign-source", "no-headers", "offset-deleted"]
-RATES = ["lose", "repeat", "abandon", "members", "restart-broker", "restart-coordinator", "time-out", "add-partition"]
+RATES = ["lose", "repeat", "abandon", "members", "restart-broker", "restart-coordinator", "time-out", "add-partition", "late-complete"]
 SIZES = {"applications": (1, 8), "inputs": (1, 16), "outputs": (1, 16), "transaction-logs": (1, 4), "segment-records": (1, 40), "batch-records": (1, 8)}
 ARGUMENTS = {
     "feed": {"source"},
@@ -42,6 +42,8 @@ ARGUMENTS = {
     "deliver": {"message"},
     "time-out": {"application"},
     "add-partition": {"session", "partition"},
+    "write-marker": {"message"},
+    "complete": {"application"},
 }
 REPLIES = {"done", "fenced", "out-of-order", "duplicate-kept", "wrong-state", "busy", "stale-generation", "epochs-spent", "unknown"}
 HEAD = {
@@ -243,6 +245,23 @@ def time_outs():
         shutil.rmtree(folder)
 
 
+def finer_steps():
+    """Partitions that are added apart from what comes there, and transactions that are completed apart from their end markers: no fault stands,
+    and all is processed."""
+    done = dict.fromkeys(("add-partition", "write-marker", "complete"), 0)
+    for seed in range(1, 21):
+        folder, history = f"{scratch}/finer-{seed}", f"{scratch}/finer-{seed}.jsonl"
+        rates = ["--add-partition", 10 * seed, "--late-complete", 420 - 20 * seed, "--restart-coordinator", seed]
+        answer = run("simulate", "--seed", seed, "--events", 600, *rates, *(["--chain"] if seed % 2 else []), "--history", history, folder)
+        said = run("check", "--quiet", folder)
+        expect(answer[0] == 0 and said[1].startswith("yes "), f"finer steps, seed {seed}: {answer} {said}")
+        for it in lines_of(history)[1:-1]:
+            if it.get("event") in done and it["reply"] == "done":
+                done[it["event"]] += 1
+        shutil.rmtree(folder)
+    expect(min(done.values()) > 20, f"finer steps: {done}")
+
+
 def schedule(*lines):
     """A file of these lines, which are objects or texts."""
     path = f"{scratch}/schedule"
@@ -409,6 +428,31 @@ def worked():
     answer = (0, "wrote partitions=6\nyes transactions=2 inputs=2 outputs=1\n", "")
     found = replayed(HEAD, *added)
     expect(found == answer, f"partitions that are added: {found}")
+    # the end markers come and complete nothing; the transaction is completed after the last one, or they come again after a restart
+    marked = [event(12, "write-marker", message=message, reply="done", value=1) for message in (4, 5, 6)]
+    completed = [
+        *deeds[:11],
+        event(12, "complete", application=0, reply="busy"),
+        event(13, "write-marker", message=3, reply="unknown"),
+        *marked,
+        event(14, "resume", session=0, reply="busy"),
+        event(15, "complete", application=2, reply="unknown"),
+        event(16, "complete", application=1, reply="wrong-state"),
+        event(17, "complete", application=0, reply="done", value=0),
+        event(18, "resume", session=0, reply="done", value=1),
+        event(19, "write-marker", message=7, reply="unknown"),
+    ]
+    expect(replayed(HEAD, *completed) == good, f"a transaction that is completed late: {replayed(HEAD, *completed)}")
+    restarted = [
+        *deeds[:11],
+        *marked,
+        event(13, "coordinator-restart", reply="done", value=0),
+        event(14, "complete", application=0, reply="busy"),
+        *(event(15, "deliver", message=message, reply="done", value=2) for message in (7, 8, 9)),
+        event(16, "complete", application=0, reply="wrong-state"),
+    ]
+    expect(replayed(HEAD, *restarted) == good, f"a restart before a transaction is complete: {replayed(HEAD, *restarted)}")
+    expect(replayed(HEAD, *deeds[:11], *marked) == (2, "", "eoscheck: the cluster is not at rest\n"), "a transaction that isn't completed")
     # cut before the end: a transaction is open
     expect(replayed(HEAD, *deeds[:9]) == (2, "", "eoscheck: the cluster is not at rest\n"), "a schedule that is cut")
     # nothing happens
@@ -548,6 +592,7 @@ def main():
     expect(made > PLAIN + RANDOM / 2, f"only {made} of {len(found)} random scripts leave a folder")
     totals()
     time_outs()
+    finer_steps()
     worked()
     refused()
     files()

@@ -77,7 +77,8 @@ def event(words):
     if choice == 12:
         return f"broker:{number(words)}"
     if choice == 13:
-        return ("coordinator", f"time-out:{number(words)}", f"add:{number(words)},{words.next() % 3 - 1}")[words.next() % 3]
+        rest = f"add:{number(words)},{words.next() % 3 - 1}", f"mark:{words.next() % 12}", f"complete:{number(words)}"
+        return ("coordinator", f"time-out:{number(words)}", *rest)[words.next() % 5]
     return f"deliver:{words.next() % 12}"
 
 

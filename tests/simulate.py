@@ -78,7 +78,7 @@ MISHAPS = {
 }
 # A mistake of the second group.
 CHAINED = {"aborted-input": "5.6 NoSuchInput"}
-RATES = ["lose", "repeat", "abandon", "members", "restart-broker", "restart-coordinator", "abort", "time-out", "add-partition"]
+RATES = ["lose", "repeat", "abandon", "members", "restart-broker", "restart-coordinator", "abort", "time-out", "add-partition", "late-complete"]
 # The ranges of the sizes, and what they are where nothing is said.
 SIZES = {
     "applications": (1, 8, 2),
@@ -496,7 +496,9 @@ def documented():
     expect(sum(float(row[1]) for row in rates) == 1000, "the rates of docs/SIMULATOR.md come to 1000")
     said = run("simulate", "--help")[1]
     for _, rate, option in rates:
-        named = re.search(rf"\b{option.strip('`')[2:]}\s+{re.escape(rate)}[,.]", said) if option else True
+        # Those of one rate stand in a row before it.
+        others = r"(?:,?\s+(?:and\s+)?[a-z][a-z-]*)*"
+        named = re.search(rf"\b{option.strip('`')[2:]}{others}\s+{re.escape(rate)}[,.]", said) if option else True
         expect(named, f"the help says that {option} is {rate}")
     expect(all(f"--{name} " in said for name in [*RATES, *SIZES]), "the help has all sizes and rates")
     for name, fault in SWITCHES.items():
@@ -649,6 +651,7 @@ def bad_words():
         ["--seed", "7", "--events", "7", "--abort", "x", folder],
         ["--seed", "7", "--events", "7", "--time-out", "1001", folder],
         ["--seed", "7", "--events", "7", "--add-partition", "1001", folder],
+        ["--seed", "7", "--events", "7", "--late-complete", "-1", folder],
         ["--seed", "7", "--events", "7", "--switch-at", "1000001", folder],
         ["--seed", "7", "--events", "7", folder, "more"],
     ]:
@@ -659,6 +662,7 @@ def bad_words():
         (["--repeat", "500", "--abort", "460"], "rates: more than 1000 in all"),
         (["--time-out", "860"], "rates: more than 1000 in all"),
         (["--time-out", "400", "--add-partition", "460"], "rates: more than 1000 in all"),
+        (["--add-partition", "430", "--late-complete", "430"], "rates: more than 1000 in all"),
         (["--switch-at", "3"], "--switch-at: no --switch"),
         (["--switch", "no-bump", "--switch-at", "8"], "--switch-at: more than --events"),
         (["--switch", "no-bump", "--no-tail"], "--no-tail: no --switch-at"),

@@ -106,6 +106,8 @@ needs c w e l r = at e (is_bounded c w r) (is_formed c w r)
     at (events.Deliver n) b f = (named c w.messages n f.messages, f.coordinators, λ a. epoch_top w.events w a b)
     at (events.TimeOut a) b f = (f.coordinators, epoch_top w.events w a b)
     at (events.AddPartition n p) b f = tt
+    at (events.WriteMarker n) b f = named c w.messages n f.messages
+    at (events.Complete a) b f = tt
 
 -- ---- an event more
 

@@ -13,13 +13,15 @@ use Rattle.eos_machine.specs.declared.event.Event.TheVariants as events
 use Rattle.eos_machine.specs.declared.event.Reply.{Reply}
 use Rattle.eos_machine.specs.declared.event.Reply.TheVariants.{Done, Fenced}
 use Rattle.eos_machine.specs.declared.switches.Switches.{Switches}
+use Rattle.eos_machine.specs.declared.item.Status.{Status}
+use Rattle.eos_machine.specs.declared.item.Status.TheVariants.{Empty, Ongoing, Prepare, Complete}
 use Rattle.eos_machine.specs.declared.item.Item.{Item}
 use Rattle.eos_machine.specs.declared.item.Item.TheVariants.{Output, Offset}
 use Rattle.eos_machine.specs.LogIndexes.{offsets_index, written_index}
 use Rattle.eos_machine.specs.World.{World, coord_at, log_at}
 use Rattle.eos_machine.specs.Answers.{Answer, when}
 use Rattle.eos_machine.specs.Sessions.{resume_ended, produce, commit_offset, end_session, resume, fetch}
-use Rattle.eos_machine.specs.Deliveries.{appended, fenced, deliver}
+use Rattle.eos_machine.specs.Deliveries.{appended, fenced, deliver, write_marker, complete_prepared}
 use Rattle.eos_machine.specs.Machine.{start_session, add_partition, happens_under}
 use Rattle.eos_broker.specs.steps.Proper.{IsProper}
 
@@ -73,6 +75,19 @@ fetched : (c : Config) (w : World) (q : ℕ) (s : Option Session) → IsProperAn
 fetched c w q None = tt
 fetched c w q (Some s) = either _ _ _ tt (either _ _ _ tt (either _ _ _ tt tt))
 
+written : (u : Switches) (c : Config) (w : World) (m : Option Message) → IsProperAnswer (write_marker u c w m)
+written u c w None = tt
+written u c w (Some (messages.Output a e p s x v)) = tt
+written u c w (Some (messages.Offset a e g q v)) = tt
+written u c w (Some (messages.End a e k)) = tt
+written u c w (Some (messages.Marker a m k p)) = either _ _ _ tt (either _ _ _ tt tt)
+
+completed : (u : Switches) (c : Config) (w : World) (a : ℕ) (t : Status) → IsProperAnswer (complete_prepared u c w a t)
+completed u c w a Empty = tt
+completed u c w a Ongoing = tt
+completed u c w a (Prepare k) = either _ _ _ tt tt
+completed u c w a (Complete k) = tt
+
 added : (u : Switches) (c : Config) (w : World) (p : Option ℕ) (s : Option Session) → IsProperAnswer (add_partition u c w p s)
 added u c w p None = tt
 added u c w p (Some s) = either _ _ _ tt (either _ _ _ tt (either _ _ _ tt (either _ _ _ tt tt)))
@@ -96,6 +111,8 @@ proper u c w events.CoordinatorRestart = tt
 proper u c w (events.Deliver n) = delivered u c w n (slice_get w.messages n)
 proper u c w (events.TimeOut a) = either _ _ _ tt (either _ _ _ tt (delivered u c w 0 (Some (messages.End a (coord_at w a).epoch Abort))))
 proper u c w (events.AddPartition n p) = added u c w p (slice_get w.sessions n)
+proper u c w (events.WriteMarker n) = written u c w (slice_get w.messages n)
+proper u c w (events.Complete a) = either _ _ _ tt (completed u c w a (coord_at w a).status)
 
 pub proper_of : (u : Switches) (c : Config) (w v : World) (e : Event) (r : Reply) → (v, r) ≡ happens_under u c w e → IsProper r
 proper_of u c w v e r h = subst IsProper (sym (ap (λ x. x.1) h)) (proper u c w e)

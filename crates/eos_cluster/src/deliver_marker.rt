@@ -38,7 +38,7 @@ pub(crate) fn is_marker_fenced(store: &Store, switches: Switches, marker: EndMar
 }
 
 /// Whether the coordinator waits for an end marker.
-fn awaits_marker(store: &Store, marker: EndMarker) -> bool
+pub(crate) fn awaits_marker(store: &Store, marker: EndMarker) -> bool
     ensures { result ≡ (waits_for (coord_at store.now.world marker.application).status (coord_at store.now.world marker.application).epoch marker.epoch marker.kind && has marker.place (coord_at store.now.world marker.application).awaited) }
 {
     let EndMarker {
@@ -82,7 +82,7 @@ fn marker_kind(switches: Switches, config: Config, place: usize, kind: Kind) -> 
 }
 
 /// The item of an end marker that is appended.
-fn marker_of(store: &Store, switches: Switches, marker: EndMarker) -> Item
+pub(crate) fn marker_of(store: &Store, switches: Switches, marker: EndMarker) -> Item
     ensures { result ≡ marker_of switches store.now.config marker.application marker.epoch marker.kind marker.place store.now.world.events }
 {
     Item::Marker {
@@ -124,7 +124,11 @@ fn put_awaited(store: &mut Store, switches: Switches, marker: EndMarker) -> Resu
 }
 
 /// Appends an end marker that nobody waits for.
-fn put_alone(store: &mut Store, switches: Switches, marker: EndMarker) -> Result<(), AllocError>
+pub(crate) fn put_alone(
+    store: &mut Store,
+    switches: Switches,
+    marker: EndMarker,
+) -> Result<(), AllocError>
     ensures ok { OnOk result (store.new.world ≡ marked switches store.old.config store.old.world marker.application marker.epoch marker.kind marker.place) }
     ensures err { OnErr result (store.new.world ≡ store.old.world) }
     ensures config { store.new.config ≡ store.old.config }

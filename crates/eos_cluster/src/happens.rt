@@ -6,6 +6,7 @@ ghost use Rattle.eos_machine.specs.World.{generation_at};
 ghost use Rattle.eos_broker.specs.steps.Named.{Needs};
 
 use crate::add_partition::add_partition;
+use crate::completing::{complete, write_marker};
 use crate::deliver_end::time_out;
 use crate::{commit, deliver, end, feed, fetch, produce, restart, resume, start};
 use bytes::Bytes;
@@ -80,5 +81,7 @@ pub(crate) fn happen(
         Event::AddPartition { session, partition } => {
             add_partition(store, switches, session, partition)
         }
+        Event::WriteMarker { message } => write_marker(store, switches, message),
+        Event::Complete { application } => complete(store, switches, application),
     }
 }

@@ -8,6 +8,7 @@ mod accept;
 mod add_partition;
 mod breaches;
 mod cluster;
+mod completing;
 mod deliver_end;
 mod deliver_marker;
 mod deliver_offset;

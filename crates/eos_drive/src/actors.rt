@@ -78,6 +78,7 @@ impl Actors {
             Happening::RestartCoordinator => self.restart_coordinator(cluster, driver),
             Happening::TimeOut => self.time_out(cluster, driver, rest),
             Happening::AddPartition => self.add_partition(cluster, driver, rest),
+            Happening::CompleteLate => self.complete_late(cluster, driver, rest),
         }
     }
 
@@ -378,6 +379,6 @@ impl Actors {
 }
 
 /// Whether a message of that number was there.
-fn is_message(reply: Reply) -> bool {
+pub(crate) fn is_message(reply: Reply) -> bool {
     !matches!(reply, Reply::Unknown | Reply::Full)
 }

@@ -28,6 +28,8 @@ pub(crate) enum Happening {
     TimeOut,
     /// An application adds a partition to its transaction.
     AddPartition,
+    /// An end marker arrives, and completes nothing; or the coordinator completes a transaction.
+    CompleteLate,
 }
 
 /// A word: what it says happens, and a number that says to whom.
@@ -59,6 +61,9 @@ pub struct Rates {
     pub time_out: Option<u16>,
     /// An application adds a partition to its transaction, before it has sent anything there or after it: 0.
     pub add_partition: Option<u16>,
+    /// The next message arrives, if it is an end marker, and its transaction isn't complete by that; or the coordinator completes
+    /// one of which it awaits no end marker: 0.
+    pub late_complete: Option<u16>,
 }
 
 /// A rate of a thousandth, where that of every word is 32,000: a number of which today's rates are whole ones.
@@ -85,6 +90,8 @@ const TIME_OUT: u64 = 0;
 
 const ADD_PARTITION: u64 = 0;
 
+const LATE_COMPLETE: u64 = 0;
+
 /// Of the words that say nothing of these rates, in 55: 6 feed, 30 work, 17 carry, 2 are an abandoned session's.
 const FEEDS: u64 = 6;
 
@@ -106,6 +113,7 @@ impl Rates {
         abort: None,
         time_out: None,
         add_partition: None,
+        late_complete: None,
     };
 }
 
@@ -140,6 +148,7 @@ impl Rates {
             + share(self.abort, ABORT)
             + share(self.time_out, TIME_OUT)
             + share(self.add_partition, ADD_PARTITION)
+            + share(self.late_complete, LATE_COMPLETE)
     }
 
     /// What a word says.
@@ -169,7 +178,7 @@ impl Rates {
     }
 
     /// What happens at these rates, each with its share.
-    fn shares(&self) -> [(Happening, u64); 9] {
+    fn shares(&self) -> [(Happening, u64); 10] {
         [
             (Happening::Lose, share(self.lose, LOSE)),
             (Happening::Repeat, share(self.repeat, REPEAT)),
@@ -188,6 +197,10 @@ impl Rates {
             (
                 Happening::AddPartition,
                 share(self.add_partition, ADD_PARTITION),
+            ),
+            (
+                Happening::CompleteLate,
+                share(self.late_complete, LATE_COMPLETE),
             ),
         ]
     }

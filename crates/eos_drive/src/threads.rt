@@ -31,8 +31,8 @@ fn claim_of(partition: i32, offset: i64) -> Claim {
     }
 }
 
-/// What a word asks for: its remainder by 11 is the place of the event in `Event`, of which the last two are never
-/// asked for, and what is left says of whom. Of the cluster nothing is known, so that some events name nothing and some come too late.
+/// What a word asks for: its remainder by 11 is the place of the event in `Event`, of which those behind
+/// `Deliver` are never asked for, and what is left says of whom. Of the cluster nothing is known, so that some events name nothing and some come too late.
 fn event_of(word: u32) -> Event {
     let rest = word / 11;
     let two = (rest % 2) as usize;

@@ -14,7 +14,7 @@ use Rattle.serde_json.specs.View.{items_of}
 use Rattle.eos_batch.specs.declared.marker.Kind.TheVariants as kinds
 use Rattle.eos_machine.specs.declared.item.Claim.{Claim}
 use Rattle.eos_machine.specs.declared.event.Event.{Event}
-use Rattle.eos_machine.specs.declared.event.Event.TheVariants.{Feed, Start, Produce, Commit, End, Resume, Fetch, Members, BrokerRestart, CoordinatorRestart, Deliver, TimeOut, AddPartition}
+use Rattle.eos_machine.specs.declared.event.Event.TheVariants.{Feed, Start, Produce, Commit, End, Resume, Fetch, Members, BrokerRestart, CoordinatorRestart, Deliver, TimeOut, AddPartition, WriteMarker, Complete}
 use Rattle.eos_machine.specs.declared.event.Reply.{Reply}
 use Rattle.eos_machine.specs.declared.event.Reply.TheVariants as replies
 use Rattle.eos_machine.specs.declared.switches.Switches.{Switches}
@@ -79,6 +79,8 @@ past_arguments q CoordinatorRestart ms n = refl
 past_arguments q (Deliver message) ms n = other q _ _ ms n.message
 past_arguments q (TimeOut application) ms n = other q _ _ ms n.application
 past_arguments q (AddPartition session partition) ms n = other q _ _ _ n.partition ∙ other q _ _ ms n.session
+past_arguments q (WriteMarker message) ms n = other q _ _ ms n.message
+past_arguments q (Complete application) ms n = other q _ _ ms n.application
 
 past_event : (q : List ℕ) (e : Event) (ms : JsonMembers) → NoArgument q → bytes_eq q (codes "event") ≡ false → get_member q (with_event e ms) ≡ get_member q ms
 unfolding with_event
@@ -216,6 +218,8 @@ event_back (AddPartition session partition) ms h none =
       get_member-put (codes "session") (count session) ms,
       partition_said partition,
     ) refl
+event_back (WriteMarker message) ms h none = rw (get_member-put (codes "message") (count message) ms) refl
+event_back (Complete application) ms h none = rw (get_member-put (codes "application") (count application) ms) refl
 
 event_said : (e : Event) (ms : JsonMembers) → FitsEvent e → get_member (codes "group") ms ≡ None → event_in (object (with_event e ms)) ≡ Some e
 unfolding with_event

@@ -8,7 +8,7 @@ use Rattle.serde_json.specs.View.{items_of}
 use Rattle.eos_machine.specs.declared.config.Config.{Config}
 use Rattle.eos_machine.specs.declared.item.Claim.{Claim}
 use Rattle.eos_machine.specs.declared.event.Event.{Event}
-use Rattle.eos_machine.specs.declared.event.Event.TheVariants.{Feed, Start, Produce, Commit, End, Resume, Fetch, Members, BrokerRestart, CoordinatorRestart, Deliver, TimeOut, AddPartition}
+use Rattle.eos_machine.specs.declared.event.Event.TheVariants.{Feed, Start, Produce, Commit, End, Resume, Fetch, Members, BrokerRestart, CoordinatorRestart, Deliver, TimeOut, AddPartition, WriteMarker, Complete}
 use Rattle.eos_machine.specs.declared.event.Reply.{Reply}
 use Rattle.eos_machine.specs.declared.event.Reply.TheVariants as replies
 use Rattle.eos_machine.specs.declared.switches.Switches.{Switches}
@@ -112,6 +112,8 @@ with_arguments CoordinatorRestart ms = ms
 with_arguments (Deliver message) ms = put (codes "message") (count message) ms
 with_arguments (TimeOut application) ms = put (codes "application") (count application) ms
 with_arguments (AddPartition session partition) ms = with_target session partition ms
+with_arguments (WriteMarker message) ms = put (codes "message") (count message) ms
+with_arguments (Complete application) ms = put (codes "application") (count application) ms
 
 unfoldable pub with_event : Event → JsonMembers → JsonMembers
 with_event event ms = with_arguments event (put (codes "event") (string (event_word event)) ms)

@@ -5,7 +5,7 @@ ghost use Rattle.serde_json.specs.Data.{put as with_member};
 ghost use Rattle.serde_json.specs.View.{view};
 ghost use Rattle.eos_history_lines.specs.steps.Held.{held};
 ghost use Rattle.eos_history_lines.specs.Lines.{count, with_claim, claimed, offset_or_null, count_or_null, with_group, with_target, with_arguments, with_event};
-ghost use Rattle.eos_history_lines.specs.steps.Reading.{event_in, plain_event, event_of_session, feed_in, start_in, deliver_in, members_in, time_out_in, restart_in, produce_in, commit_in, end_in, fetch_in, claim_within, claim_in, offset_within, add_in, partition_within};
+ghost use Rattle.eos_history_lines.specs.steps.Reading.{event_in, plain_event, event_of_session, feed_in, start_in, deliver_in, members_in, time_out_in, write_marker_in, complete_in, restart_in, produce_in, commit_in, end_in, fetch_in, claim_within, claim_in, offset_within, add_in, partition_within};
 
 use crate::members::{count_in, integer_in, kind_called, size_in, small_in, text_in};
 use crate::object::Object;
@@ -60,9 +60,10 @@ fn put_arguments(alloc: Global, out: &mut Object, event: &Event) -> Result<(), A
         Event::Members { group } => put_group(out, *group),
         Event::CoordinatorRestart => Ok(()),
         Event::Deliver { message } => out.put_count("message", *message),
-        Event::Start { application } | Event::TimeOut { application } => {
-            out.put_size("application", *application)
-        }
+        Event::WriteMarker { message } => out.put_count("message", *message),
+        Event::Start { application } => out.put_size("application", *application),
+        Event::TimeOut { application } => out.put_size("application", *application),
+        Event::Complete { application } => out.put_size("application", *application),
         Event::AddPartition { session, partition } => put_target(out, *session, *partition),
     }
 }
@@ -187,6 +188,10 @@ fn read_plain_event(word: &str, value: &Value) -> Option<Event>
         Some(Event::CoordinatorRestart)
     } else if word == "time-out" {
         read_time_out(value)
+    } else if word == "write-marker" {
+        read_written_marker(value)
+    } else if word == "complete" {
+        read_completion(value)
     } else {
         read_event_of_session(word, value)
     }
@@ -229,6 +234,20 @@ fn read_time_out(value: &Value) -> Option<Event>
 {
     let application = size_in(value, "application")?;
     Some(Event::TimeOut { application })
+}
+
+fn read_written_marker(value: &Value) -> Option<Event>
+    ensures { result ≡ write_marker_in (view value.now) }
+{
+    let message = count_in(value, "message")?;
+    Some(Event::WriteMarker { message })
+}
+
+fn read_completion(value: &Value) -> Option<Event>
+    ensures { result ≡ complete_in (view value.now) }
+{
+    let application = size_in(value, "application")?;
+    Some(Event::Complete { application })
 }
 
 // ---- those of a session

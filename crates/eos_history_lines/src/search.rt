@@ -114,7 +114,7 @@ fn look_at_event(value: &Value, word: &str) -> Result<(), Mistake> {
 fn arguments_of(word: &str) -> Option<&'static [(&'static str, Wanted)]> {
     let arguments: &'static [(&'static str, Wanted)] = match word {
         "feed" => &[("source", Wanted::Count)],
-        "start" | "time-out" => &[("application", Wanted::Count)],
+        "start" | "time-out" | "complete" => &[("application", Wanted::Count)],
         "produce" => &[
             ("session", Wanted::Count),
             ("partition", Wanted::Count),
@@ -130,7 +130,7 @@ fn arguments_of(word: &str) -> Option<&'static [(&'static str, Wanted)]> {
         "fetch" => &[("session", Wanted::Count), ("source", Wanted::Count)],
         "add-partition" => &[("session", Wanted::Count), ("partition", Wanted::Partition)],
         "broker-restart" => &[("topic", Wanted::Text), ("partition", Wanted::Count)],
-        "deliver" => &[("message", Wanted::Count)],
+        "deliver" | "write-marker" => &[("message", Wanted::Count)],
         "members" | "coordinator-restart" => &[],
         _ => return None,
     };

@@ -43,6 +43,8 @@ pub(crate) fn event_word(event: &Event) -> &'static str
         Event::Deliver { .. } => "deliver",
         Event::TimeOut { .. } => "time-out",
         Event::AddPartition { .. } => "add-partition",
+        Event::WriteMarker { .. } => "write-marker",
+        Event::Complete { .. } => "complete",
     }
 }
 

@@ -17,7 +17,7 @@ use Rattle.eos_machine.specs.Tests.{is_ongoing, is_prepare, has, is_current, ong
 use Rattle.eos_machine.specs.Answers.{Answer, when, Done, Fenced}
 use Rattle.eos_machine.specs.Sessions.{last_epoch, new_session, sequence_of, after_output, after_offset, after_end, after_resume, produce, commit_offset, commit, end_session, resume_ended, resume, fetch}
 use Rattle.eos_machine.specs.Rules.{marker_epoch, marker_of}
-use Rattle.eos_machine.specs.Deliveries.{with_partition, appended, accept, fenced, marked, ticked_off, ticked, deliver}
+use Rattle.eos_machine.specs.Deliveries.{with_partition, appended, accept, fenced, marked, ticked_off, ticked, deliver, write_marker, complete_prepared}
 use Rattle.eos_machine.specs.Machine.{start_session, start, reread, due_again, queued_again, happens_under, add_partition, counted, step_under, step, world_under, world_after}
 use Rattle.eos_machine.specs.Bounds.{Limit, IsWithin, IsSent, IsSafe, Bounded}
 use Rattle.eos_machine.proofs.Brokers.{not_lt}
@@ -208,6 +208,20 @@ bounded_deliver n u c w m (Some (messages.Marker a e k p)) b h =
     bounded_if n _ _ _ (λ t. b) (λ f1. bounded_if n _ _ _ (λ t. bounded_marked n u c w a e k p b h) (λ f2. bounded_if n _ _ _
     (λ t. bounded_finished n u c (ticked u c w a e k p) a k s) (λ f3. s)))
 
+bounded_writing : (n : ℕ) (u : Switches) (c : Config) (w : World) (r : Option Message) → Bounded n w → SentIf n r → Bounded n (write_marker u c w r).0
+bounded_writing n u c w None b h = b
+bounded_writing n u c w (Some (messages.Output a e p s x v)) b h = b
+bounded_writing n u c w (Some (messages.Offset a e g q v)) b h = b
+bounded_writing n u c w (Some (messages.End a e k)) b h = b
+bounded_writing n u c w (Some (messages.Marker a e k p)) b h =
+    bounded_if n _ _ _ (λ t. b) (λ f1. bounded_if n _ _ _ (λ t. bounded_marked n u c w a e k p b h) (λ f2. bounded_ticked n u c w a e k p b h))
+
+bounded_completed : (n : ℕ) (u : Switches) (c : Config) (w : World) (a : ℕ) (t : Status) → Bounded n w → Bounded n (complete_prepared u c w a t).0
+bounded_completed n u c w a Empty b = b
+bounded_completed n u c w a Ongoing b = b
+bounded_completed n u c w a (Prepare k) b = bounded_if n _ _ _ (λ t. b) (λ f. bounded_finished n u c w a k b)
+bounded_completed n u c w a (Complete k) b = b
+
 -- ---- sessions
 
 none_sent : (n m : ℕ) → All (λ q. q ≤ n) (replicate m 0)
@@ -348,6 +362,8 @@ bounded_event n u c w (events.TimeOut a) b =
     let low = limit_ongoing (coord_at w a).status (coord_at w a).epoch (not_false _ f2) (coord_within (n + 1) w a d) in
     bounded_deliver (n + 1) u c w 0 (Some (messages.End a (coord_at w a).epoch Abort)) d low))
 bounded_event n u c w (events.AddPartition m p) b = let d = bounded_more n w b in bounded_added (n + 1) u c w p (slice_get w.sessions m) d (safe_at (n + 1) w.sessions m d.sessions)
+bounded_event n u c w (events.WriteMarker m) b = let d = bounded_more n w b in bounded_writing (n + 1) u c w (slice_get w.messages m) d (message_at (n + 1) w.messages m d.messages)
+bounded_event n u c w (events.Complete a) b = let d = bounded_more n w b in bounded_if (n + 1) _ _ _ (λ t. d) (λ f. bounded_completed (n + 1) u c w a (coord_at w a).status d)
 
 pub bounded_opening : (c : Config) → Bounded 0 (opening c)
 bounded_opening c = record {

@@ -7,7 +7,7 @@ use Rattle.eos_machine.specs.World.{World}
 use Rattle.eos_machine.specs.Switching.{none}
 use Rattle.eos_machine.specs.Machine.{step, world_after, world_under}
 use Rattle.eos_machine.specs.SwitchedSchedules.{Breaks, all_under}
-use Rattle.eos_machine.specs.ShortSchedules.{Commits, Restarts, Fences, TimesOut, Adds, Fetches, Omits, Lists, Chains, Rebalances}
+use Rattle.eos_machine.specs.ShortSchedules.{Commits, Restarts, Fences, TimesOut, Adds, Completes, Fetches, Omits, Lists, Chains, Rebalances}
 
 pub commits : Commits
 unfolding when
@@ -28,6 +28,10 @@ times_out = record { replies = refl; output = refl; states = refl }
 pub adds : Adds
 unfolding when
 adds = record { replies = refl; empty = refl; output = refl; offsets = refl; states = refl }
+
+pub completes : Completes
+unfolding when
+completes = record { replies = refl; output = refl; states = refl }
 
 pub fetches : Fetches
 unfolding when

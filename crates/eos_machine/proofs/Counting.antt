@@ -8,7 +8,7 @@ use Rattle.eos_batch.specs.declared.marker.Kind.{Kind}
 use Rattle.eos_batch.specs.declared.marker.Kind.TheVariants.{Abort}
 use Rattle.eos_machine.specs.LogIndexes.{Config, txn_index, input_index, target_index, listed}
 use Rattle.eos_machine.specs.Switching.{none}
-use Rattle.eos_machine.specs.World.{Claim, Ongoing, Entry, Item, Fed, State, Marker, Message, Session, World, Event, opening, coord_at, log_at, with_item, with_coord, written, prepared, finished}
+use Rattle.eos_machine.specs.World.{Claim, Status, Empty, Ongoing, Prepare, Complete, Entry, Item, Fed, State, Marker, Message, Session, World, Event, opening, coord_at, log_at, with_item, with_coord, written, prepared, finished}
 use Rattle.eos_machine.specs.declared.state.Message.TheVariants as messages
 use Rattle.eos_machine.specs.declared.event.Event.TheVariants as events
 use Rattle.eos_machine.specs.Application.{Mark}
@@ -16,7 +16,7 @@ use Rattle.eos_machine.specs.Logs.{mark_in, marks_of}
 use Rattle.eos_machine.specs.Tests.{is_ongoing, has, ongoing_partitions}
 use Rattle.eos_machine.specs.Answers.{Answer, when}
 use Rattle.eos_machine.specs.Sessions.{produce, commit_offset, commit, end_session, resume_ended, resume, fetch}
-use Rattle.eos_machine.specs.Deliveries.{with_partition, accept, ticked_off, deliver}
+use Rattle.eos_machine.specs.Deliveries.{with_partition, accept, ticked_off, deliver, write_marker, complete_prepared}
 use Rattle.eos_machine.specs.Machine.{add_partition, step, world_after}
 use Rattle.eos_machine.specs.steps.Machine.{happens}
 use Rattle.eos_machine.proofs.Worlds.{each}
@@ -93,6 +93,21 @@ few_deliver n c w m (Some (messages.Marker a e k p)) h =
     let i : Few (n + 1) (with_item w p (Marker a e k w.events)) = few_item n w p (Marker a e k w.events) h in
     few_if (n + 1) _ _ _ (few_more n w h) (few_if (n + 1) _ _ _ i (few_if (n + 1) _ _ _ (few_finished (n + 1) c (with_coord (with_item w p (Marker a e k w.events)) a (ticked_off (coord_at w a) p)) a k i) i))
 
+few_writing : (n : ℕ) (c : Config) (w : World) (r : Option Message) → Few n w → Few (n + 1) (write_marker none c w r).0
+few_writing n c w None h = few_more n w h
+few_writing n c w (Some (messages.Output a e p s x v)) h = few_more n w h
+few_writing n c w (Some (messages.Offset a e g q v)) h = few_more n w h
+few_writing n c w (Some (messages.End a e k)) h = few_more n w h
+few_writing n c w (Some (messages.Marker a e k p)) h =
+    let i : Few (n + 1) (with_item w p (Marker a e k w.events)) = few_item n w p (Marker a e k w.events) h in
+    few_if (n + 1) _ _ _ (few_more n w h) (few_if (n + 1) _ _ _ i i)
+
+few_completed : (n : ℕ) (c : Config) (w : World) (a : ℕ) (t : Status) → Few n w → Few n (complete_prepared none c w a t).0
+few_completed n c w a Empty h = h
+few_completed n c w a Ongoing h = h
+few_completed n c w a (Prepare k) h = few_if n _ _ _ h (few_finished n c w a k h)
+few_completed n c w a (Complete k) h = h
+
 few_session : (n : ℕ) (c : Config) (w : World) (m p : ℕ) (x : Option Claim) (r : Option Session) → Few n w → Few n (produce c w m p x r).0
 few_session n c w m p x None h = h
 few_session n c w m p x (Some s) h = few_if n _ _ _ h (few_if n _ _ _ h h)
@@ -144,6 +159,8 @@ few_event n c w (events.TimeOut a) h =
     let d = few_more n w h in
     few_if (n + 1) _ _ _ d (few_if (n + 1) _ _ _ d (few_deliver n c w 0 (Some (messages.End a (coord_at w a).epoch Abort)) h))
 few_event n c w (events.AddPartition m p) h = few_added (n + 1) c w p (slice_get w.sessions m) (few_more n w h)
+few_event n c w (events.WriteMarker m) h = few_writing n c w (slice_get w.messages m) h
+few_event n c w (events.Complete a) h = let d = few_more n w h in few_if (n + 1) _ _ _ d (few_completed (n + 1) c w a (coord_at w a).status d)
 
 -- ---- any list of events
 

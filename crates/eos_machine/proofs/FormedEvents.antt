@@ -17,7 +17,7 @@ use Rattle.eos_machine.specs.Rules.{marker_of}
 use Rattle.eos_machine.specs.Tests.{is_ongoing, has, ongoing_partitions}
 use Rattle.eos_machine.specs.Answers.{Answer, when, Done, Fenced}
 use Rattle.eos_machine.specs.Sessions.{claimed_topic, new_session, sequence_of, after_output, after_offset, after_end, after_resume, sent, produce, commit_offset, commit, end_session, resume_ended, resume, fetch}
-use Rattle.eos_machine.specs.Deliveries.{with_partition, appended, accept, fenced, marked, ticked_off, ticked, deliver}
+use Rattle.eos_machine.specs.Deliveries.{with_partition, appended, accept, fenced, marked, ticked_off, ticked, deliver, write_marker, complete_prepared}
 use Rattle.eos_machine.specs.Machine.{start_session, start, reread, due_again, queued_again, happens_under, add_partition, counted, step_under, world_under}
 use Rattle.eos_machine.specs.Formed.{Names, IsOfOne, IsFormed}
 use Rattle.eos_machine.proofs.Brokers.{is_lt}
@@ -112,6 +112,20 @@ formed_deliver u c w n (Some (messages.End a e k)) f h =
 formed_deliver u c w n (Some (messages.Marker a m k p)) f h =
     let s = formed_ticked u c w a m k p f in
     formed_if c _ _ _ f (λ f1. formed_if c _ _ _ (formed_marked u c w a m k p f) (λ f2. formed_if c _ _ _ (formed_finished u c (ticked u c w a m k p) a k s) (λ f3. s)))
+
+formed_writing : (u : Switches) (c : Config) (w : World) (r : Option Message) → IsFormed c w → IsFormed c (write_marker u c w r).0
+formed_writing u c w None f = f
+formed_writing u c w (Some (messages.Output a e p s x v)) f = f
+formed_writing u c w (Some (messages.Offset a e g q v)) f = f
+formed_writing u c w (Some (messages.End a e k)) f = f
+formed_writing u c w (Some (messages.Marker a m k p)) f =
+    formed_if c _ _ _ f (λ f1. formed_if c _ _ _ (formed_marked u c w a m k p f) (λ f2. formed_ticked u c w a m k p f))
+
+formed_completed : (u : Switches) (c : Config) (w : World) (a : ℕ) (t : Status) → IsFormed c w → IsFormed c (complete_prepared u c w a t).0
+formed_completed u c w a Empty f = f
+formed_completed u c w a Ongoing f = f
+formed_completed u c w a (Prepare k) f = formed_if c _ _ _ f (λ f1. formed_finished u c w a k f)
+formed_completed u c w a (Complete k) f = f
 
 -- ---- sessions
 
@@ -218,6 +232,8 @@ formed_event u c w (events.TimeOut a) f = formed_if c _ _ _ f (λ f1.
     let l : a < application_count c = is_lt a (application_count c) (not_false _ f1) in
     formed_if c _ _ _ f (λ f2. formed_deliver u c w 0 (Some (messages.End a (coord_at w a).epoch Abort)) f l))
 formed_event u c w (events.AddPartition n p) f = formed_added u c w p (slice_get w.sessions n) f
+formed_event u c w (events.WriteMarker n) f = formed_writing u c w (slice_get w.messages n) f
+formed_event u c w (events.Complete a) f = formed_if c _ _ _ f (λ f1. formed_completed u c w a (coord_at w a).status f)
 
 formed_counted : (c : Config) (n : ℕ) (x : Answer) → IsFormed c x.0 → IsFormed c (counted n x).0
 formed_counted c n x f = record { coordinators = f.coordinators; messages = f.messages; sessions = f.sessions; generations = f.generations }

@@ -21,7 +21,7 @@ use Rattle.eos_machine.specs.Logs.{mark_in, entries_of, marks_of, last_state, pr
 use Rattle.eos_machine.specs.Tests.{is_ongoing, is_prepare, has, is_nil, is_commit, is_current, waits_for, ongoing_partitions}
 use Rattle.eos_machine.specs.Answers.{Answer, when}
 use Rattle.eos_machine.specs.Sessions.{claimed_topic, new_session, after_output, after_offset, after_end, after_resume, sent, produce, commit_offset, commit, end_session, resume_ended, resume, fetch}
-use Rattle.eos_machine.specs.Deliveries.{with_partition, accept, deliver_output, deliver_offset, deliver_end, without, ticked_off, deliver_marker, deliver}
+use Rattle.eos_machine.specs.Deliveries.{with_partition, accept, deliver_output, deliver_offset, deliver_end, without, ticked_off, append_marker, deliver_marker, deliver, write_marker, complete_prepared}
 use Rattle.eos_machine.specs.Machine.{feed, start_session, start, reread, due_again, queued_again, restarted, add_partition, counted, step, world_after}
 use Rattle.eos_machine.specs.steps.Machine.{happens}
 use Rattle.eos_machine.specs.Rest.{decisions_of}
@@ -359,9 +359,13 @@ good_ticked c w a m k p g gv r is u cur =
     (subst (λ (s : App). Invariant (with_state s (ticked_off (coord_at w a) p))) (sym (app_pushed c w p (Marker a m k w.events) a (End m k) (of_marker a m k w.events).itself refl r.part))
     (ticked_keeps (app_of c w a) p m k (g.apps a) is u cur))
 
-good_marker : (c : Config) (w : World) (a m : ℕ) (k : Kind) (p : ℕ) → Good c w → InRange c w a p → IsOrdered (app_of c w a).decisions p m k → Good c (deliver_marker none c w a m k p).0
-good_marker c w a m k p g r is =
-    good_if c _ _ _ (λ h. g) (λ f.
+-- an end marker that a broker appends, and after which a coordinator that waits for it has one fewer to wait for
+pub record Marked (c : Config) (w : World) (a m : ℕ) (k : Kind) (p : ℕ) : Type 0 where
+  pub appended : Good c (with_item w p (Marker a m k w.events))
+  pub ticked : IsCurrent (coord_at w a).status (coord_at w a).epoch m k → Good c (with_coord (with_item w p (Marker a m k w.events)) a (ticked_off (coord_at w a) p))
+
+good_appended : (c : Config) (w : World) (a m : ℕ) (k : Kind) (p : ℕ) → Good c w → InRange c w a p → IsOrdered (app_of c w a).decisions p m k → (nat_lt m (producer_at w a p).high || not_above m (producer_at w a p).last) ≡ false → Marked c w a m k p
+good_appended c w a m k p g r is f =
     let b = or_parts (nat_lt m (producer_at w a p).high) (not_above m (producer_at w a p).last) f in
     let l = not_lt m (producer_at w a p).high b.0 in
     let low = above (producer_at w a p).last m b.1 in
@@ -369,15 +373,35 @@ good_marker c w a m k p g r is =
     let kept : IsKept c p (marks_of a (log_at w p) ++ End m k ∷ []) =
     subst (Broker (is_sequenced c p) (marks_of a (log_at w p) ++ End m k ∷ [])) (sym (producer_push unseen (marks_of a (log_at w p)) (End m k))) (broker_end (is_sequenced c p) (marks_of a (log_at w p)) (producer_at w a p) m k (g.brokers a p) l low) in
     let gv : Good c (with_item w p (Marker a m k w.events)) = good_item c w p (Marker a m k w.events) a (End m k) g (of_marker a m k w.events) r.part (marked_keeps (app_of c w a) p m k (g.apps a) is u) kept in
-    good_if c _ _ _ (λ h. gv) (λ f2.
+    record { appended = gv; ticked = λ cur. good_ticked c w a m k p g gv r is u cur }
+
+good_marker : (c : Config) (w : World) (a m : ℕ) (k : Kind) (p : ℕ) → Good c w → InRange c w a p → IsOrdered (app_of c w a).decisions p m k → Good c (deliver_marker none c w a m k p).0
+good_marker c w a m k p g r is =
+    good_if c _ _ _ (λ h. g) (λ f.
+    let v : Marked c w a m k p = good_appended c w a m k p g r is f in
+    good_if c _ _ _ (λ h. v.appended) (λ f2.
     let t = and_parts (waits_for (coord_at w a).status (coord_at w a).epoch m k) (has p (coord_at w a).awaited) (not_false _ f2) in
     let cur = waited_is (coord_at w a).status (coord_at w a).epoch m k t.0 in
-    let gz : Good c (with_coord (with_item w p (Marker a m k w.events)) a (ticked_off (coord_at w a) p)) = good_ticked c w a m k p g gv r is u cur.0 in
+    let gz : Good c (with_coord (with_item w p (Marker a m k w.events)) a (ticked_off (coord_at w a) p)) = v.ticked cur.0 in
     let s : coord_at (with_coord (with_item w p (Marker a m k w.events)) a (ticked_off (coord_at w a) p)) a ≡ ticked_off (coord_at w a) p = coord_itself (with_item w p (Marker a m k w.events)) a (ticked_off (coord_at w a) p) r.app in
     good_if c _ _ _
     (λ h. good_finished c (with_coord (with_item w p (Marker a m k w.events)) a (ticked_off (coord_at w a) p)) a p k gz (range_coord c (with_item w p (Marker a m k w.events)) a p a (ticked_off (coord_at w a) p) (range_item c w a p p (Marker a m k w.events) r))
     (ap (λ (v : Coordinator). v.status) s ∙ cur.1) (ap (λ (v : Coordinator). v.awaited) s ∙ nil_is (without p (coord_at w a).awaited) h) (ap (λ (v : Coordinator). v.started) s ∙ began_prepare c w a k g cur.1))
     (λ h. gz)))
+
+-- apart from what completes its transaction
+good_apart : (c : Config) (w : World) (a m : ℕ) (k : Kind) (p : ℕ) → Good c w → InRange c w a p → IsOrdered (app_of c w a).decisions p m k → Good c (append_marker none c w a m k p).0
+good_apart c w a m k p g r is =
+    good_if c _ _ _ (λ h. g) (λ f.
+    let v : Marked c w a m k p = good_appended c w a m k p g r is f in
+    good_if c _ _ _ (λ h. v.appended) (λ f2.
+    v.ticked (waited_is (coord_at w a).status (coord_at w a).epoch m k (and_parts (waits_for (coord_at w a).status (coord_at w a).epoch m k) (has p (coord_at w a).awaited) (not_false _ f2)).0).0))
+
+good_completed : (c : Config) (w : World) (a : ℕ) (t : Status) → (coord_at w a).status ≡ t → Good c w → InRange c w a 0 → Good c (complete_prepared none c w a t).0
+good_completed c w a Empty e g r = g
+good_completed c w a Ongoing e g r = g
+good_completed c w a (Prepare k) e g r = good_if c _ _ _ (λ h. g) (λ f. good_finished c w a 0 k g r e (nil_is (coord_at w a).awaited (not_false _ f)) (began_prepare c w a k g e))
+good_completed c w a (Complete k) e g r = g
 
 -- ---- deliveries
 
@@ -398,6 +422,13 @@ good_deliver c w n (Some (messages.Output a e p s x v)) i g d =
 good_deliver c w n (Some (messages.Offset a e y q v)) i g d = good_offset c w n a e y q v g (ranges c w a 0 i g d (omega arith))
 good_deliver c w n (Some (messages.End a e k)) i g d = good_end c w a e k g (ranges c w a 0 i g d (omega arith))
 good_deliver c w n (Some (messages.Marker a m k p)) i g d = good_marker c w a m k p g (ranges c w a p i g d.0 d.1) d.2
+
+good_writing : (c : Config) (w : World) (r : Option Message) → IsConfig c → Good c w → DueIf c w r → Good c (write_marker none c w r).0
+good_writing c w None i g d = g
+good_writing c w (Some (messages.Output a e p s x v)) i g d = g
+good_writing c w (Some (messages.Offset a e y q v)) i g d = g
+good_writing c w (Some (messages.End a e k)) i g d = g
+good_writing c w (Some (messages.Marker a m k p)) i g d = good_apart c w a m k p g (ranges c w a p i g d.0 d.1) d.2
 
 -- ---- sessions
 
@@ -576,6 +607,9 @@ good_event c w (events.TimeOut a) i g = good_if c _ _ _ (λ h. g) (λ f.
     let r : InRange c w a 0 = ranges c w a 0 i g (is_lt a (application_count c) (not_false _ f)) (omega arith) in
     good_if c _ _ _ (λ h. g) (λ h. good_end c w a (coord_at w a).epoch Abort g r))
 good_event c w (events.AddPartition n p) i g = good_added c w p (slice_get w.sessions n) i g (session_at c w.sessions n g.sessions)
+good_event c w (events.WriteMarker n) i g = good_writing c w (slice_get w.messages n) i g (due_at c w w.messages n g.due)
+good_event c w (events.Complete a) i g = good_if c _ _ _ (λ h. g) (λ f.
+    good_completed c w a (coord_at w a).status refl g (ranges c w a 0 i g (is_lt a (application_count c) (not_false _ f)) (omega arith)))
 
 good_counted : (c : Config) (n : ℕ) (x : Answer) → Good c x.0 → Good c (counted n x).0
 good_counted c n x g = good_like c x.0 _ _ _ _ _ g g.due g.sessions

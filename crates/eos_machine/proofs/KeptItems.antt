@@ -28,7 +28,7 @@ use Rattle.eos_machine.specs.Rules.{marker_of}
 use Rattle.eos_machine.specs.Tests.{is_ongoing, has, ongoing_partitions}
 use Rattle.eos_machine.specs.Answers.{Answer, when}
 use Rattle.eos_machine.specs.Sessions.{new_session, claimed_topic, sequence_of, after_output, after_offset, after_end, after_resume, sent, produce, commit_offset, commit, end_session, resume_ended, resume, fetch}
-use Rattle.eos_machine.specs.Deliveries.{with_partition, appended, accept, fenced, marked, ticked_off, ticked, without, deliver}
+use Rattle.eos_machine.specs.Deliveries.{with_partition, appended, accept, fenced, marked, ticked_off, ticked, without, deliver, write_marker, complete_prepared}
 use Rattle.eos_machine.specs.Machine.{start_session, start, reread, due_again, queued_again, happens_under, add_partition, counted, step_under, world_under}
 use Rattle.eos_machine.specs.Formed.{Names, IsOfOne, IsFormed}
 use Rattle.eos_machine.proofs.Brokers.{is_lt, not_lt}
@@ -72,6 +72,8 @@ TopicIs P events.CoordinatorRestart = ⊤
 TopicIs P (events.Deliver n) = ⊤
 TopicIs P (events.TimeOut a) = ⊤
 TopicIs P (events.AddPartition n p) = ⊤
+TopicIs P (events.WriteMarker n) = ⊤
+TopicIs P (events.Complete a) = ⊤
 
 -- ---- parts
 
@@ -229,6 +231,20 @@ kept_deliver P c n u w m (Some (messages.Marker a t k p)) e h f i =
     (finishes P c n u (ticked u c w a t k p) a k f z s)
     (λ f3. kept_more P c (n + 1) (n + 2) _ (omega arith) s)))
 
+kept_writing : (P : List ℕ → Type 0) (c : Config) (n : ℕ) (u : Switches) (w : World) (r : Option Message) → w.events < 2 ^ 31 → Kept P c n w → NamesIf c r → Kept P c (n + 1) (write_marker u c w r).0
+kept_writing P c n u w None e h f = kept_more P c n (n + 1) w (omega arith) h
+kept_writing P c n u w (Some (messages.Output a t p s x v)) e h f = kept_more P c n (n + 1) w (omega arith) h
+kept_writing P c n u w (Some (messages.Offset a t g q v)) e h f = kept_more P c n (n + 1) w (omega arith) h
+kept_writing P c n u w (Some (messages.End a t k)) e h f = kept_more P c n (n + 1) w (omega arith) h
+kept_writing P c n u w (Some (messages.Marker a t k p)) e h f =
+    kept_if P c (n + 1) _ _ _ (kept_more P c n (n + 1) w (omega arith) h) (λ f1. kept_if P c (n + 1) _ _ _ (kept_marked P c n u w a t k p f e h) (λ f2. kept_ticked P c n u w a t k p f e h))
+
+kept_completed : (P : List ℕ → Type 0) (c : Config) (n : ℕ) (u : Switches) (w : World) (a : ℕ) (t : Status) → a < application_count c → w.events < 2 ^ 31 → Kept P c n w → Kept P c (n + 1) (complete_prepared u c w a t).0
+kept_completed P c n u w a Empty l e h = kept_more P c n (n + 1) w (omega arith) h
+kept_completed P c n u w a Ongoing l e h = kept_more P c n (n + 1) w (omega arith) h
+kept_completed P c n u w a (Prepare k) l e h = kept_if P c (n + 1) _ _ _ (kept_more P c n (n + 1) w (omega arith) h) (λ f. kept_finished P c n u w a k l e h)
+kept_completed P c n u w a (Complete k) l e h = kept_more P c n (n + 1) w (omega arith) h
+
 -- ---- sessions
 
 kept_sent : (P : List ℕ → Type 0) (c : Config) (k : ℕ) (w : World) (n : ℕ) (s : Session) (x : Message) → Kept P c k w → KeptMessage P c x → Kept P c k (sent w n s x)
@@ -346,3 +362,7 @@ kept_event P c k u w (events.TimeOut a) n f t h =
     kept_if P c (k + 2) _ _ _ d (λ f2. kept_deliver P c k u w 0 (Some (messages.End a (coord_at w a).epoch Abort)) n h l tt))
 kept_event P c k u w (events.AddPartition m p) n f t h =
     kept_more P c (k + 1) (k + 2) _ (omega arith) (kept_added P c k u w p (slice_get w.sessions m) n h (session_at c w.sessions m f.sessions))
+kept_event P c k u w (events.WriteMarker m) n f t h = kept_more P c (k + 1) (k + 2) _ (omega arith) (kept_writing P c k u w (slice_get w.messages m) n h (message_at c w.messages m f.messages))
+kept_event P c k u w (events.Complete a) n f t h =
+    kept_if P c (k + 2) _ _ _ (kept_more P c k (k + 2) w (omega arith) h) (λ f1.
+    kept_more P c (k + 1) (k + 2) _ (omega arith) (kept_completed P c k u w a (coord_at w a).status (is_lt a (application_count c) (not_false _ f1)) n h))

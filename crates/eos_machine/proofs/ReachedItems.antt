@@ -96,6 +96,8 @@ any_topic events.CoordinatorRestart = tt
 any_topic (events.Deliver n) = tt
 any_topic (events.TimeOut a) = tt
 any_topic (events.AddPartition n p) = tt
+any_topic (events.WriteMarker n) = tt
+any_topic (events.Complete a) = tt
 
 any_topics : (xs : List (Switches × Event)) → All (λ x. TopicIs IsShort x.1) xs
 any_topics [] = All-nil (λ x. TopicIs IsShort x.1)

@@ -5,8 +5,8 @@ use Rattle.std.specs.Prelude.{ℕ, ◌+◌, ◌==◌, nat_lt, false, not, ◌&&�
 use Rattle.std.specs.List.{filter}
 use Rattle.eos_batch.specs.declared.marker.Kind.{Kind}
 use Rattle.eos_machine.specs.declared.switches.Switches.{Switches}
-use Rattle.eos_machine.specs.LogIndexes.{Config, offsets_index, written_index, listed}
-use Rattle.eos_machine.specs.World.{World, Claim, Item, Output, Offset, Ongoing, Coordinator, Message, coord_at, generation_of, log_at, with_item, with_coord, with_accepted, written, prepared, finished}
+use Rattle.eos_machine.specs.LogIndexes.{Config, application_count, offsets_index, written_index, listed}
+use Rattle.eos_machine.specs.World.{World, Claim, Status, Empty, Ongoing, Prepare, Complete, Item, Output, Offset, Coordinator, Message, coord_at, generation_of, log_at, with_item, with_coord, with_accepted, written, prepared, finished}
 use Rattle.eos_machine.specs.declared.state.Message.TheVariants as messages
 use Rattle.eos_machine.specs.Logs.{producer_at}
 use Rattle.eos_machine.specs.Rules.{is_repeated, is_out_of_order, is_stale, is_marker_fenced, marker_of}
@@ -87,6 +87,32 @@ deliver_marker u c w a m k p =
     when (not (waits_for (coord_at w a).status (coord_at w a).epoch m k && has p (coord_at w a).awaited)) (marked u c w a m k p, Done (length (log_at w p))) (
     when (is_nil (without p (coord_at w a).awaited)) (finished u c (ticked u c w a m k p) a k, Done (length (log_at w p))) (
     (ticked u c w a m k p, Done (length (log_at w p))))))
+
+-- apart from the Complete record: after the last one too the transaction stays prepared (KIP-98, WriteTxnMarkersRequest)
+abbrev pub append_marker : Switches → Config → World → ℕ → ℕ → Kind → ℕ → Answer
+append_marker u c w a m k p =
+    when (is_marker_fenced u (producer_at w a p) m) (w, Fenced) (
+    when (not (waits_for (coord_at w a).status (coord_at w a).epoch m k && has p (coord_at w a).awaited)) (marked u c w a m k p, Done (length (log_at w p))) (
+    (ticked u c w a m k p, Done (length (log_at w p)))))
+
+-- only an end marker is
+abbrev pub write_marker : Switches → Config → World → Option Message → Answer
+write_marker u c w None = (w, Unknown)
+write_marker u c w (Some (messages.Output a e p s x v)) = (w, Unknown)
+write_marker u c w (Some (messages.Offset a e g q v)) = (w, Unknown)
+write_marker u c w (Some (messages.End a e k)) = (w, Unknown)
+write_marker u c w (Some (messages.Marker a m k p)) = append_marker u c w a m k p
+
+-- the coordinator writes the Complete record of a transaction of which it awaits no end marker
+-- (`TransactionMarkerChannelManager.maybeWriteTxnCompletion` of Kafka's sources)
+abbrev pub complete_prepared : Switches → Config → World → ℕ → Status → Answer
+complete_prepared u c w a Empty = (w, WrongState)
+complete_prepared u c w a Ongoing = (w, WrongState)
+complete_prepared u c w a (Prepare k) = when (not (is_nil (coord_at w a).awaited)) (w, Busy) (finished u c w a k, Done 0)
+complete_prepared u c w a (Complete k) = (w, WrongState)
+
+abbrev pub complete : Switches → Config → World → ℕ → Answer
+complete u c w a = when (not (nat_lt a (application_count c))) (w, Unknown) (complete_prepared u c w a (coord_at w a).status)
 
 -- ---- any message
 

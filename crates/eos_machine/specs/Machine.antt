@@ -11,7 +11,7 @@ use Rattle.eos_machine.specs.Logs.{entries_of, last_state}
 use Rattle.eos_machine.specs.Tests.{is_active, is_current, is_ongoing, is_prepare}
 use Rattle.eos_machine.specs.Answers.{Answer, when, Done, Fenced, WrongState, Busy, EpochsSpent, Unknown, Full}
 use Rattle.eos_machine.specs.Sessions.{last_epoch, new_session, produce, commit, end_session, resume, fetch}
-use Rattle.eos_machine.specs.Deliveries.{with_partition, deliver_end, deliver}
+use Rattle.eos_machine.specs.Deliveries.{with_partition, deliver_end, deliver, write_marker, complete}
 
 abbrev pub feed : Config → World → ℕ → Answer
 feed c w p =
@@ -102,6 +102,8 @@ happens_under u c w events.CoordinatorRestart = (restarted c w, Done 0)
 happens_under u c w (events.Deliver n) = deliver u c w n (slice_get w.messages n)
 happens_under u c w (events.TimeOut a) = time_out u c w a
 happens_under u c w (events.AddPartition n p) = add_partition u c w p (slice_get w.sessions n)
+happens_under u c w (events.WriteMarker n) = write_marker u c w (slice_get w.messages n)
+happens_under u c w (events.Complete a) = complete u c w a
 
 -- an event was taken
 abbrev pub counted : ℕ → Answer → Answer

@@ -107,6 +107,23 @@ pub record Adds : Type 0 where
       ∷ State 0 (record { status = Prepare Abort; epoch = 2; partitions = 0 ∷ [] }) 17
       ∷ State 0 (record { status = Complete Abort; epoch = 2; partitions = [] }) 19 ∷ []
 
+-- the last end marker is appended, and the transaction stays prepared until it is completed; the coordinator restarts between, and all
+-- end markers come again
+abbrev pub completing : List Event
+completing =
+    events.Start 0 ∷ events.WriteMarker 0 ∷ events.Produce 0 0 claim ∷ events.WriteMarker 0 ∷ events.Deliver 0 ∷ events.Complete 0 ∷ events.End 0 Commit ∷ events.Deliver 1 ∷ events.Complete 0 ∷ events.WriteMarker 2
+    ∷ events.Resume 0 ∷ events.Deliver 2 ∷ events.CoordinatorRestart ∷ events.Complete 0 ∷ events.WriteMarker 3 ∷ events.Complete 0 ∷ events.Complete 0 ∷ events.Complete 1 ∷ events.Resume 0 ∷ events.WriteMarker 3 ∷ []
+
+pub record Completes : Type 0 where
+  pub replies : Answers single completing
+      (Done 0 ∷ Unknown ∷ Done 0 ∷ Unknown ∷ Done 0 ∷ WrongState ∷ Done 1 ∷ Done 2 ∷ Busy ∷ Done 1
+      ∷ Busy ∷ Done 2 ∷ Done 0 ∷ Busy ∷ Done 3 ∷ Done 0 ∷ WrongState ∷ Unknown ∷ Done 1 ∷ Done 4 ∷ [])
+  pub output : log_at (after single completing) 3 ≡ Output 0 0 0 claim 2 4 ∷ Marker 0 1 Commit 9 ∷ Marker 0 1 Commit 11 ∷ Marker 0 1 Commit 14 ∷ Marker 0 1 Commit 19 ∷ []
+  pub states : log_at (after single completing) 1 ≡ State 0 (record { status = Empty; epoch = 0; partitions = [] }) 0
+      ∷ State 0 (record { status = Ongoing; epoch = 0; partitions = 3 ∷ [] }) 4
+      ∷ State 0 (record { status = Prepare Commit; epoch = 1; partitions = 3 ∷ [] }) 7
+      ∷ State 0 (record { status = Complete Commit; epoch = 1; partitions = [] }) 15 ∷ []
+
 -- an offset is committed: while its transaction is open nobody fetches it, and another generation of the group never does
 abbrev pub fetching : List Event
 fetching =

@@ -70,6 +70,15 @@ pub enum Event {
         session: usize,
         partition: Option<usize>,
     },
+    /// An end marker arrives, and even after the last one its transaction isn't complete by that (KIP-98, WriteTxnMarkersRequest).
+    WriteMarker {
+        message: u64,
+    },
+    /// The coordinator writes that an application's transaction is complete, of which it awaits no end marker
+    /// (`TransactionMarkerChannelManager.maybeWriteTxnCompletion` of Kafka's sources).
+    Complete {
+        application: usize,
+    },
 }
 
 /// What a cluster answers.

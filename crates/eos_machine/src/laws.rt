@@ -11,7 +11,7 @@ ghost use Rattle.eos_machine.specs.Switching.{none};
 ghost use Rattle.eos_machine.specs.Formed.{IsFormed};
 ghost use Rattle.eos_machine.specs.Machine.{change_members, world_after, world_under};
 ghost use Rattle.eos_machine.specs.Rest.{KeepsSequences, NeighboursFit, StepsFit, IsAtRest, AllAtomic};
-ghost use Rattle.eos_machine.specs.ShortSchedules.{Commits, Restarts, Fences, TimesOut, Adds, Fetches, Omits, Lists, Chains, Rebalances};
+ghost use Rattle.eos_machine.specs.ShortSchedules.{Commits, Restarts, Fences, TimesOut, Adds, Completes, Fetches, Omits, Lists, Chains, Rebalances};
 ghost use Rattle.eos_machine.specs.SwitchedSchedules.{Breaks, all_under};
 
 /// At any time no fault of a sequence or of an epoch stands at any batch: none of the kinds FirstSequence, Sequence,
@@ -68,6 +68,7 @@ pub fn schedules()
     ensures fences { Fences }
     ensures times_out { TimesOut }
     ensures adds { Adds }
+    ensures completes { Completes }
     ensures fetches { Fetches }
     ensures omits { Omits }
     ensures lists { Lists }

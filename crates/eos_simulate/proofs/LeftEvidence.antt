@@ -43,6 +43,8 @@ one_topic events.CoordinatorRestart h = tt
 one_topic (events.Deliver n) h = tt
 one_topic (events.TimeOut a) h = tt
 one_topic (events.AddPartition n p) h = tt
+one_topic (events.WriteMarker n) h = tt
+one_topic (events.Complete a) h = tt
 
 item_bytes : (c : Config) (x : Item) → KeptItem IsBytes c x → HasBytes x
 item_bytes c (Fed n) h = tt

@@ -14,7 +14,7 @@ use Rattle.eos_machine.specs.declared.item.Item.{Item}
 use Rattle.eos_machine.specs.declared.state.Session.{Session}
 use Rattle.eos_machine.specs.declared.state.Message.{Message}
 use Rattle.eos_machine.specs.declared.event.Event.{Event}
-use Rattle.eos_machine.specs.declared.item.Status.TheVariants.{Ongoing}
+use Rattle.eos_machine.specs.declared.item.Status.TheVariants.{Empty, Ongoing, Prepare, Complete}
 use Rattle.eos_machine.specs.declared.item.Item.TheVariants.{Fed, State, Output, Offset, Marker}
 use Rattle.eos_machine.specs.Switching.{none}
 use Rattle.eos_machine.specs.World.{World, opening, log_at, coord_at, with_item, with_coord, written, prepared, finished}
@@ -23,7 +23,7 @@ use Rattle.eos_machine.specs.declared.event.Event.TheVariants as events
 use Rattle.eos_machine.specs.Tests.{is_ongoing, has, ongoing_partitions}
 use Rattle.eos_machine.specs.Answers.{Answer, when}
 use Rattle.eos_machine.specs.Sessions.{produce, commit_offset, commit, end_session, resume_ended, resume, fetch}
-use Rattle.eos_machine.specs.Deliveries.{with_partition, accept, ticked_off, deliver}
+use Rattle.eos_machine.specs.Deliveries.{with_partition, accept, ticked_off, deliver, write_marker, complete_prepared}
 use Rattle.eos_machine.proofs.Written.{written_after}
 use Rattle.eos_machine.specs.Machine.{start_session, start, counted, step, world_after, add_partition}
 use Rattle.eos_machine.specs.steps.Machine.{happens}
@@ -129,6 +129,21 @@ placed_fetch : (c : Config) (w : World) (q : ℕ) (r : Option Session) → Place
 placed_fetch c w q None h = h
 placed_fetch c w q (Some s) h = placed_if c _ _ _ h (placed_if c _ _ _ h (placed_if c _ _ _ h h))
 
+placed_writing : (c : Config) (w : World) (r : Option Message) → Placed c w → Placed c (write_marker none c w r).0
+placed_writing c w None h = h
+placed_writing c w (Some (messages.Output a e p s x v)) h = h
+placed_writing c w (Some (messages.Offset a e g q v)) h = h
+placed_writing c w (Some (messages.End a e k)) h = h
+placed_writing c w (Some (messages.Marker a e k p)) h =
+    let i : Placed c (with_item w p (Marker a e k w.events)) = placed_item c w p (Marker a e k w.events) h tt in
+    placed_if c _ _ _ h (placed_if c _ _ _ i i)
+
+placed_completed : (c : Config) (w : World) (a : ℕ) (t : Status) → Placed c w → Placed c (complete_prepared none c w a t).0
+placed_completed c w a Empty h = h
+placed_completed c w a Ongoing h = h
+placed_completed c w a (Prepare k) h = placed_if c _ _ _ h (placed_finished c w a k h)
+placed_completed c w a (Complete k) h = h
+
 placed_added : (c : Config) (w : World) (p : Option ℕ) (r : Option Session) → Placed c w → Placed c (add_partition none c w p r).0
 placed_added c w p None h = h
 placed_added c w p (Some s) h = placed_if c _ _ _ h (placed_if c _ _ _ h (placed_if c _ _ _ h (placed_if c _ _ _ h (placed_partition c w s.application (target_index c s.application p) h))))
@@ -147,6 +162,8 @@ placed_event c w events.CoordinatorRestart h = h
 placed_event c w (events.Deliver m) h = placed_deliver c w m (slice_get w.messages m) h
 placed_event c w (events.TimeOut a) h = placed_if c _ _ _ h (placed_if c _ _ _ h (placed_deliver c w 0 (Some (messages.End a (coord_at w a).epoch Abort)) h))
 placed_event c w (events.AddPartition m p) h = placed_added c w p (slice_get w.sessions m) h
+placed_event c w (events.WriteMarker m) h = placed_writing c w (slice_get w.messages m) h
+placed_event c w (events.Complete a) h = placed_if c _ _ _ h (placed_completed c w a (coord_at w a).status h)
 
 pub placed_run : (c : Config) (w : World) (es : List Event) → Placed c w → Placed c (world_after c w es)
 placed_run c w [] h = h

@@ -64,6 +64,8 @@ event_labels s number events.CoordinatorRestart reply = []
 event_labels s number (events.Deliver n) reply = answer_labels s number n reply
 event_labels s number (events.TimeOut a) reply = []
 event_labels s number (events.AddPartition n p) reply = []
+event_labels s number (events.WriteMarker n) reply = answer_labels s number n reply
+event_labels s number (events.Complete a) reply = []
 
 -- a mishap, and what the network lost and repeated
 abbrev pub wrong_note : Note → Wrong

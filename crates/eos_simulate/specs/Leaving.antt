@@ -26,6 +26,8 @@ SendsBytes events.CoordinatorRestart = ⊤
 SendsBytes (events.Deliver n) = ⊤
 SendsBytes (events.TimeOut a) = ⊤
 SendsBytes (events.AddPartition n p) = ⊤
+SendsBytes (events.WriteMarker n) = ⊤
+SendsBytes (events.Complete a) = ⊤
 
 -- there is evidence of these logs
 pub record LeavesEvidence (c : Config) (w : World) : Type 0 where

@@ -42,6 +42,8 @@ unnamed events.CoordinatorRestart = events.CoordinatorRestart
 unnamed (events.Deliver n) = events.Deliver 0
 unnamed (events.TimeOut a) = events.TimeOut a
 unnamed (events.AddPartition n p) = events.AddPartition 0 p
+unnamed (events.WriteMarker n) = events.WriteMarker 0
+unnamed (events.Complete a) = events.Complete a
 
 abbrev pub unnamed_note : SaidNote → SaidNote
 unnamed_note (notes.Lost message) = notes.Lost 0

@@ -37,6 +37,7 @@ rates_said r = record {
   abort = rate_said r.abort;
   time_out = rate_said r.time_out;
   add_partition = rate_said r.add_partition;
+  late_complete = rate_said r.late_complete;
 }
 
 -- a cluster of these sizes has something in which this rule is broken

@@ -71,6 +71,7 @@ each_rate_drawn given ws = record {
   abort = rate_drawn given.abort (word_at ws 13);
   time_out = given.time_out;
   add_partition = given.add_partition;
+  late_complete = given.late_complete;
 }
 
 -- only rates that fit are drawn

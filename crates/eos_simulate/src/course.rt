@@ -242,6 +242,7 @@ pub(crate) fn rates_of(words: &Thousandths) -> Rates
         abort: rate_of(words.abort),
         time_out: rate_of(words.time_out),
         add_partition: rate_of(words.add_partition),
+        late_complete: rate_of(words.late_complete),
     }
 }
 

@@ -38,6 +38,8 @@ pub fn sends_bytes(event: &Event)
         Event::Deliver { .. } => {}
         Event::TimeOut { .. } => {}
         Event::AddPartition { .. } => {}
+        Event::WriteMarker { .. } => {}
+        Event::Complete { .. } => {}
     }
 }
 

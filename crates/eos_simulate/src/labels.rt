@@ -139,7 +139,9 @@ fn push_event(
     ensures { OnOk result (AddsLabels labels.old.items labels.new.items (event_labels cluster.now number event.now reply)) }
 {
     match event {
-        Event::Deliver { message } => push_answer(labels, number, cluster, *message, reply),
+        Event::Deliver { message } | Event::WriteMarker { message } => {
+            push_answer(labels, number, cluster, *message, reply)
+        }
         Event::Feed { .. }
         | Event::Start { .. }
         | Event::Produce { .. }
@@ -151,7 +153,8 @@ fn push_event(
         | Event::BrokerRestart { .. }
         | Event::CoordinatorRestart
         | Event::TimeOut { .. }
-        | Event::AddPartition { .. } => Ok(()),
+        | Event::AddPartition { .. }
+        | Event::Complete { .. } => Ok(()),
     }
 }
 

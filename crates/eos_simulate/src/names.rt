@@ -109,6 +109,10 @@ impl Names {
                 Some(message) => Ok(Some(Event::Deliver { message })),
                 None => Ok(None),
             },
+            Event::WriteMarker { message } => match self.message(*message) {
+                Some(message) => Ok(Some(Event::WriteMarker { message })),
+                None => Ok(None),
+            },
             Event::Produce { session, .. }
             | Event::Commit { session, .. }
             | Event::End { session, .. }
@@ -123,7 +127,8 @@ impl Names {
             | Event::Members { .. }
             | Event::BrokerRestart { .. }
             | Event::CoordinatorRestart
-            | Event::TimeOut { .. } => Ok(Some(event.clone()?)),
+            | Event::TimeOut { .. }
+            | Event::Complete { .. } => Ok(Some(event.clone()?)),
         }
     }
 
@@ -161,7 +166,9 @@ impl Names {
             | Event::BrokerRestart { .. }
             | Event::CoordinatorRestart
             | Event::Deliver { .. }
-            | Event::TimeOut { .. } => Ok(None),
+            | Event::WriteMarker { .. }
+            | Event::TimeOut { .. }
+            | Event::Complete { .. } => Ok(None),
         }
     }
 

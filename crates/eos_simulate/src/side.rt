@@ -95,7 +95,9 @@ impl Side {
             | Event::Fetch { .. }
             | Event::Members { .. }
             | Event::BrokerRestart { .. }
-            | Event::AddPartition { .. } => {}
+            | Event::AddPartition { .. }
+            | Event::WriteMarker { .. }
+            | Event::Complete { .. } => {}
             Event::CoordinatorRestart | Event::Deliver { .. } | Event::TimeOut { .. } => {
                 self.count_markers();
             }

@@ -171,6 +171,7 @@ fn each_rate_drawn(given: Thousandths, draws: &[u32]) -> Thousandths
         abort: rate_drawn(given.abort, word_at(draws, 13)),
         time_out: given.time_out,
         add_partition: given.add_partition,
+        late_complete: given.late_complete,
     }
 }
 

@@ -12,13 +12,16 @@ pub(crate) struct Argument {
     pub(crate) form: Form,
 }
 
+/// No arguments.
+pub(crate) const NONE: &[&str] = &[];
+
 /// Whether an argument has to be there.
 #[derive(Clone, Copy)]
 pub(crate) enum Presence {
     Required,
     Optional,
     /// Not this one; and beside it none of these may stand, list by list, of which one that has to be there may then be left out.
-    Without(&'static [&'static [&'static str]]),
+    Without(&'static [&'static str], &'static [&'static str], &'static [&'static str]),
 }
 
 /// How an argument is written, with what help shows for its value.

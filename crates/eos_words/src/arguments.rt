@@ -1,6 +1,6 @@
 //! The arguments of the subcommands. Each table is lent by a function: a proof that saw all of them at once would compute too long.
 
-use crate::argument::{Argument, Form, Presence};
+use crate::argument::{Argument, Form, NONE, Presence};
 use clap::builder::ValueParser;
 
 const READINGS: &[&str] = &["outputs", "transactions", "offsets"];
@@ -155,7 +155,7 @@ static EXPLAIN_ARGUMENTS: [Argument; 4] = [
     Argument {
         name: "code",
         help: "The code of a kind of fault, such as 5.10, or its name",
-        presence: Presence::Without(&[EXPLAINED]),
+        presence: Presence::Without(EXPLAINED, NONE, NONE),
         form: Form::Valued("CODE", ValueParser::String),
     },
     FAULT,
@@ -229,7 +229,7 @@ static FOLD_ARGUMENTS: [Argument; 4] = [
     Argument {
         name: "verify",
         help: "Compares the folds in FOLDER with logs, and writes none",
-        presence: Presence::Without(&[FOLDED]),
+        presence: Presence::Without(FOLDED, NONE, NONE),
         form: Form::Valued("FOLDER", ValueParser::NonEmptyString),
     },
     Argument {

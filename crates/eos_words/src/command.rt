@@ -147,13 +147,10 @@ fn make_argument<'a>(alloc: Global, it: &Argument) -> Result<Arg<'a>, AllocError
     match it.presence {
         Presence::Required => Ok(argument.required(true)),
         Presence::Optional => Ok(argument),
-        Presence::Without(lists) => {
-            let mut argument = argument;
-            for others in lists {
-                argument = argument.conflicts_with_all(others)?;
-            }
-            Ok(argument)
-        }
+        Presence::Without(first, second, third) => argument
+            .conflicts_with_all(first)?
+            .conflicts_with_all(second)?
+            .conflicts_with_all(third),
     }
 }
 

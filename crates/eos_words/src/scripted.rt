@@ -90,5 +90,6 @@ fn read_rates(inner: &ArgMatches<'_>) -> Thousandths {
         abort: inner.get_one::<u64>("abort"),
         time_out: inner.get_one::<u64>("time-out"),
         add_partition: inner.get_one::<u64>("add-partition"),
+        late_complete: inner.get_one::<u64>("late-complete"),
     }
 }

@@ -1,6 +1,6 @@
 //! The arguments of `simulate`, and what its help says.
 
-use crate::argument::{Argument, Form, Presence};
+use crate::argument::{Argument, Form, NONE, Presence};
 use clap::builder::ValueParser;
 
 const SWITCHES: &[&str] = &[
@@ -34,11 +34,15 @@ const SCRIPTED: &[&str] = &[
     "abort",
     "time-out",
     "add-partition",
+    "late-complete",
     "switch-at",
     "no-tail",
     "mishap",
     "swarm",
 ];
+
+/// Which rules are broken: a schedule says it, and where all are run they may be.
+const BROKEN: &[&str] = &["switch"];
 
 /// What each of several folders has of its own, or can't have.
 const SINGLE: &[&str] = &["history", "labels", "schedule"];
@@ -46,7 +50,7 @@ const SINGLE: &[&str] = &["history", "labels", "schedule"];
 /// What else is made of a script, and how it is told.
 const MADE: &[&str] = &["stop-anywhere", "collect", "count", "progress", "folder"];
 
-static SIMULATE_ARGUMENTS: [Argument; 32] = [
+static SIMULATE_ARGUMENTS: [Argument; 33] = [
     Argument {
         name: "seed",
         help: "What the script is drawn from, 0 to 2^64 - 1",
@@ -156,6 +160,12 @@ static SIMULATE_ARGUMENTS: [Argument; 32] = [
         form: Form::Valued("RATE", ValueParser::Unsigned(0, 1000)),
     },
     Argument {
+        name: "late-complete",
+        help: "Words, of 1000, by which a transaction completes late",
+        presence: Presence::Optional,
+        form: Form::Valued("RATE", ValueParser::Unsigned(0, 1000)),
+    },
+    Argument {
         name: "switch",
         help: "A rule that the cluster breaks; may be repeated",
         presence: Presence::Optional,
@@ -206,13 +216,13 @@ static SIMULATE_ARGUMENTS: [Argument; 32] = [
     Argument {
         name: "schedule",
         help: "Runs the lines of such a file, in place of a script",
-        presence: Presence::Without(&[SCRIPTED, &["switch"]]),
+        presence: Presence::Without(SCRIPTED, BROKEN, NONE),
         form: Form::Valued("FILE", ValueParser::NonEmptyString),
     },
     Argument {
         name: "count",
         help: "So many folders in FOLDER, of the seeds from S on",
-        presence: Presence::Without(&[SINGLE]),
+        presence: Presence::Without(SINGLE, NONE, NONE),
         form: Form::Valued("N", ValueParser::Unsigned(1, 999_999)),
     },
     Argument {
@@ -224,7 +234,7 @@ static SIMULATE_ARGUMENTS: [Argument; 32] = [
     Argument {
         name: "every",
         help: "Runs each schedule of at most N words, 0 to 8, and checks it",
-        presence: Presence::Without(&[SCRIPTED, SINGLE, MADE]),
+        presence: Presence::Without(SCRIPTED, SINGLE, MADE),
         form: Form::Valued("N", ValueParser::Unsigned(0, 8)),
     },
     Argument {
@@ -265,10 +275,12 @@ that all of it was written; `eoscheck check FOLDER` then says yes, and
 
 A RATE is how many of 1000 words say it. One that is not given is as ever: lose
 15.625, repeat 62.5, abandon 7.8125, members 3.90625, restart-broker 7.8125,
-restart-coordinator 11.71875, abort 31.25, time-out and add-partition 0. All
-nine come to 1000 at most. At a time-out the coordinator aborts an application's
-open transaction, and its producer is fenced. With add-partition a partition is
-listed before a record comes there, or without one.
+restart-coordinator 11.71875, abort 31.25, time-out, add-partition and
+late-complete 0. All ten come to 1000 at most. At a time-out the coordinator
+aborts an application's open transaction, and its producer is fenced. With
+add-partition a partition is listed before a record comes there, or without
+one. With late-complete end markers come by themselves, and the coordinator
+writes that a transaction is complete later, or restarts before.
 
 With --chain there is a second group, of one application: it reads what stands
 committed in `out`, and writes `fin`, which has as many partitions. The manifest

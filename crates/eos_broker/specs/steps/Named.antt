@@ -22,3 +22,5 @@ Needs c w events.CoordinatorRestart = ⊤
 Needs c w (events.Deliver n) = IsNamed c (slice_get w.messages n) × (length w.coordinators ≡ application_count c) × ((a : ℕ) → (coord_at w a).epoch ≤ 32767)
 Needs c w (events.TimeOut a) = (length w.coordinators ≡ application_count c) × ((coord_at w a).epoch ≤ 32767)
 Needs c w (events.AddPartition n p) = ⊤
+Needs c w (events.WriteMarker n) = IsNamed c (slice_get w.messages n)
+Needs c w (events.Complete a) = ⊤

@@ -3,7 +3,7 @@
 ghost use Rattle.std.specs.Prelude.{◌≡◌, ◌∷◌, ◌++◌, ◌-◌, ◌+◌, ◌≤◌, ◌<◌, ◌^◌, ◌↔◌, true, [], OnOk, OnErr, IfOk, length};
 ghost use Rattle.eos_machine.specs.LogIndexes.{txn_index};
 ghost use Rattle.eos_machine.specs.World.{coord_at, with_coord, said_entry, recorded, prepared, state_of};
-ghost use Rattle.eos_machine.specs.Tests.{has, is_current, ongoing_partitions};
+ghost use Rattle.eos_machine.specs.Tests.{has, is_current, is_nil, ongoing_partitions};
 ghost use Rattle.eos_machine.specs.Deliveries.{without, ticked_off};
 ghost use Rattle.eos_machine.specs.Machine.{with_coordinators};
 ghost use Rattle.eos_machine.specs.Rest.{IsAtRest};
@@ -115,6 +115,16 @@ impl Store {
         match self.coordinators.get(application) {
             Some(state) => copies::has(place, state.awaited.as_slice()),
             None => false,
+        }
+    }
+
+    /// Whether no end marker is awaited.
+    pub fn awaits_none(&self, application: usize) -> bool
+        ensures { result ≡ is_nil (coord_at self.now.world application).awaited }
+    {
+        match self.coordinators.get(application) {
+            Some(state) => state.awaited.as_slice().is_empty(),
+            None => true,
         }
     }
 

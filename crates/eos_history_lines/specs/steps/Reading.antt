@@ -6,7 +6,7 @@ use Rattle.eos_batch.specs.declared.marker.Kind.{Kind}
 use Rattle.eos_batch.specs.declared.marker.Kind.TheVariants as kinds
 use Rattle.eos_machine.specs.declared.item.Claim.{Claim}
 use Rattle.eos_machine.specs.declared.event.Event.{Event}
-use Rattle.eos_machine.specs.declared.event.Event.TheVariants.{Feed, Start, Produce, Commit, End, Resume, Fetch, Members, BrokerRestart, CoordinatorRestart, Deliver, TimeOut, AddPartition}
+use Rattle.eos_machine.specs.declared.event.Event.TheVariants.{Feed, Start, Produce, Commit, End, Resume, Fetch, Members, BrokerRestart, CoordinatorRestart, Deliver, TimeOut, AddPartition, WriteMarker, Complete}
 use Rattle.eos_machine.specs.declared.event.Reply.{Reply}
 use Rattle.eos_machine.specs.declared.event.Reply.TheVariants as replies
 use Rattle.eos_machine.specs.declared.switches.Switches.{Switches}
@@ -85,6 +85,12 @@ deliver_in d = option_map (λ message. Deliver message) (count_in (codes "messag
 abbrev pub time_out_in : Data → Option Event
 time_out_in d = option_map (λ application. TimeOut application) (count_in (codes "application") d)
 
+abbrev pub write_marker_in : Data → Option Event
+write_marker_in d = option_map (λ message. WriteMarker message) (count_in (codes "message") d)
+
+abbrev pub complete_in : Data → Option Event
+complete_in d = option_map (λ application. Complete application) (count_in (codes "application") d)
+
 -- the first group's, where none is named
 abbrev pub group_from : Option Data → Option ℕ
 group_from None = Some 0
@@ -132,7 +138,9 @@ plain_event word d =
     else (if bytes_eq word (codes "members") then members_in d
     else (if bytes_eq word (codes "coordinator-restart") then Some CoordinatorRestart
     else (if bytes_eq word (codes "time-out") then time_out_in d
-    else event_of_session word d)))))
+    else (if bytes_eq word (codes "write-marker") then write_marker_in d
+    else (if bytes_eq word (codes "complete") then complete_in d
+    else event_of_session word d)))))))
 
 abbrev pub event_called : List ℕ → Data → Option Event
 event_called word d =

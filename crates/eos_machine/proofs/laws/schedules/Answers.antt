@@ -1,4 +1,4 @@
-use Rattle.eos_machine.proofs.Computed.{commits, restarts, fences, times_out, adds, fetches, omits, lists, chains, rebalances}
+use Rattle.eos_machine.proofs.Computed.{commits, restarts, fences, times_out, adds, completes, fetches, omits, lists, chains, rebalances}
 use Rattle.eos_machine.proofs.laws.schedules.Goals as goal
 
 pub returns-clause-commits : goal.returns-clause-commits
@@ -15,6 +15,9 @@ returns-clause-times_out c = times_out
 
 pub returns-clause-adds : goal.returns-clause-adds
 returns-clause-adds c = adds
+
+pub returns-clause-completes : goal.returns-clause-completes
+returns-clause-completes c = completes
 
 pub returns-clause-fetches : goal.returns-clause-fetches
 returns-clause-fetches c = fetches
