@@ -20,7 +20,7 @@ mod visible;
 pub use commits::{CommitRef, last_committed};
 pub use eos_verdict::{VisibleFault, VisibleFaultKind};
 pub use judge::{least_visible_fault, least_visible_fault_by};
-pub use name::{IndexedName, Names, names_of};
+pub use name::{IndexedName, NameMarks, Names, names_of};
 pub use offsets::{committed_offsets, offsets_of};
 pub use roles::{SourceSet, TopicSet};
 pub use table::{CommitTable, commits_of, committed};

@@ -1,6 +1,6 @@
 //! The names of the partitions, among which a lent name is looked up.
 
-ghost use Rattle.std.specs.Prelude.{◌≡◌, true, Some, map, slice_get, IfOk, IfSome, IfNone};
+ghost use Rattle.std.specs.Prelude.{◌≡◌, ◌<◌, true, Some, map, slice_get, IfOk, IfSome, IfNone};
 ghost use Rattle.eos_base.specs.Members.{Has};
 ghost use Rattle.eos_fold.specs.Parts.{part_name};
 ghost use Rattle.eos_commits.specs.NameTables.{plain_name, AreAscending};
@@ -41,6 +41,30 @@ fn is_named(name: &NameRef<'_>, topic: &[u8], partition: i32) -> bool
     ensures { result ≡ true → plain_name name.now ≡ record { topic = topic.now; partition = partition } }
 {
     name.partition == partition && name.topic == topic
+}
+
+/// How many partition numbers have a mark of their own.
+const MARKS: usize = 16;
+
+/// Where the last look-ups of names ended, by the number of the partition: one topic's partitions are looked for in turns. The answers
+/// don't depend on it.
+#[derive(Clone, Copy)]
+pub struct NameMarks {
+    places: [usize; MARKS],
+}
+
+impl NameMarks {
+    /// Nothing was looked up yet.
+    pub fn new() -> NameMarks {
+        NameMarks { places: [0; MARKS] }
+    }
+}
+
+/// The number of a partition's mark.
+fn mark_of(partition: i32) -> usize
+    ensures { result < 16 }
+{
+    (partition.unsigned_abs() % 16) as usize
 }
 
 /// A partition's index among the names, and its name.
@@ -127,16 +151,19 @@ impl<'a> Names<'a> {
         }
     }
 
-    /// The index of this name, looked for first where the last one stood. The mark is where the last such look-up ended; it
-    /// may be any.
-    pub fn index_near(&self, mark: &mut usize, topic: &[u8], partition: i32) -> Option<usize>
-        ensures { IfSome result (λ place. slice_get self.now place ≡ Some (record { topic = topic.now; partition = partition })) }
+    /// The index of this name, looked for first where the last one of its number stood: where names ascend, there is none only where
+    /// it isn't among them. The marks are where the last such look-ups ended; they may be any.
+    pub fn index_near(&self, marks: &mut NameMarks, topic: &[u8], partition: i32) -> Option<usize>
+        ensures named { IfSome result (λ place. slice_get self.now place ≡ Some (record { topic = topic.now; partition = partition })) }
+        ensures absent { IfNone result (AreAscending self.now → Has self.now (record { topic = topic.now; partition = partition }) → ⊥) }
     {
-        if self.is_at(*mark, topic, partition) {
-            return Some(*mark);
+        let slot = mark_of(partition);
+        let last = marks.places[slot];
+        if self.is_at(last, topic, partition) {
+            return Some(last);
         }
         let part = self.find(topic, partition)?;
-        *mark = part.place;
+        marks.places[slot] = part.place;
         Some(part.place)
     }
 }

@@ -9,7 +9,7 @@ ghost use Rattle.eos_commits.specs.NameTables.{AreAscending};
 ghost use Rattle.eos_commits.specs.steps.SetOffsets.{set_named};
 
 use crate::commits::CommitRef;
-use crate::name::{Names, names_of};
+use crate::name::{NameMarks, Names, names_of};
 use eos_kept::Part;
 use std::alloc::{AllocError, Global};
 
@@ -21,13 +21,18 @@ fn set_offset(offsets: &mut Vec<i64>, place: usize, offset: i64)
 }
 
 /// Sets the offset of a commit's partition, if it is there.
-fn commit_one(offsets: &mut Vec<i64>, names: &Names<'_>, commit: &CommitRef<'_>)
+fn commit_one(
+    offsets: &mut Vec<i64>,
+    names: &Names<'_>,
+    marks: &mut NameMarks,
+    commit: &CommitRef<'_>,
+)
     requires { length offsets.old.items ≡ length names.now }
     ensures len { length offsets.new.items ≡ length names.now }
     ensures set { AreAscending names.now → offsets.new.items ≡ set_named names.now (plain_commit commit.now) offsets.old.items }
 {
-    if let Some(part) = names.find(commit.topic, commit.partition) {
-        set_offset(offsets, part.place, commit.offset);
+    if let Some(place) = names.index_near(marks, commit.topic, commit.partition) {
+        set_offset(offsets, place, commit.offset);
     }
 }
 
@@ -43,8 +48,9 @@ pub fn offsets_of(
     ensures { IfOk result (λ offsets. AreAscending names.now → offsets.items ≡ map (committed_offset (map plain_commit commits.now)) names.now) }
 {
     let mut offsets = vec![in alloc; 0; names.as_slice().len()]?;
+    let mut marks = NameMarks::new();
     for commit in commits {
-        commit_one(&mut offsets, names, commit);
+        commit_one(&mut offsets, names, &mut marks, commit);
     }
     Ok(offsets)
 }

@@ -17,6 +17,7 @@ use crate::claims::{Output, PlacedRef, placed_of};
 use crate::passes::PassMarks;
 use eos_base::{PartitionName, Workers};
 use eos_claims::{ClaimRef, SourceRef};
+use eos_commits::NameMarks;
 use eos_kept::{KeptBatch, KeptBatches, Look};
 use std::alloc::Global;
 use std::thread;
@@ -32,7 +33,7 @@ pub(crate) struct Keys {
 /// Where the last look-ups ended. The answers don't depend on these numbers.
 #[derive(Clone, Copy)]
 struct Marks {
-    name: usize,
+    name: NameMarks,
     pass: PassMarks,
 }
 
@@ -165,7 +166,7 @@ fn take_part<'a>(
     ensures { (a : Application) → AreBooks a books.now → IfSome result (λ done. HasKeyed a books.now.names.now (plain_keys keys.old) (plain_keys keys.new) (output_claims output.now)) }
 {
     let mut marks = Marks {
-        name: 0,
+        name: NameMarks::new(),
         pass: PassMarks::new(),
     };
     let items = output.part.items();

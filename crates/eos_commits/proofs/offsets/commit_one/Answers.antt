@@ -12,10 +12,10 @@ name_with topic number = record { topic = topic; partition = number }
 pub returns-in-Some-clause-set : goal.returns-in-Some-clause-set
 returns-in-Some-clause-set c = λ up.
     let number : to_z w32 (of_z w32 c.args.commit.now.partition) ≡ c.args.commit.now.partition = search rules in
-    let found : slice_get c.args.names.now c.in-Some.part.place ≡ Some (name_with c.args.commit.now.topic.now c.args.commit.now.partition)
-    = subst (λ n. slice_get c.args.names.now c.in-Some.part.place ≡ Some (name_with c.args.commit.now.topic.now n)) number c.in-Some.ensures.named in
-    let at = set_at c.args.names.now (plain_commit c.args.commit.now) c.args.offsets.now.items c.in-Some.part.place c.requires up found in
-    let set : c.set_offset.new.offsets.items ≡ slice_set c.args.offsets.now.items c.in-Some.part.place c.args.commit.now.offset = search rules in
+    let found : slice_get c.args.names.now c.in-Some.place ≡ Some (name_with c.args.commit.now.topic.now c.args.commit.now.partition)
+    = subst (λ n. slice_get c.args.names.now c.in-Some.place ≡ Some (name_with c.args.commit.now.topic.now n)) number c.in-Some.ensures.named in
+    let at = set_at c.args.names.now (plain_commit c.args.commit.now) c.args.offsets.now.items c.in-Some.place c.requires up found in
+    let set : c.set_offset.new.offsets.items ≡ slice_set c.args.offsets.now.items c.in-Some.place c.args.commit.now.offset = search rules in
     set ∙ at
 
 pub returns-in_default-clause-set : goal.returns-in_default-clause-set

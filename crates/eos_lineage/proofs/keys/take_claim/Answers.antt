@@ -15,7 +15,7 @@ returns-in-Ok c = λ a are.
     let claim = plain_placed c.args.placed.now in
     let books = c.args.books.now in
     let number : to_z w32 (of_z w32 claim.source.partition.partition) ≡ claim.source.partition.partition = search rules in
-    let at = subst (λ n. slice_get books.names.now c.in_ok-place.place ≡ Some (name_with claim.source.partition.topic n)) number c.in_ok-place.ensures in
+    let at = subst (λ n. slice_get books.names.now c.in_ok-place.place ≡ Some (name_with claim.source.partition.topic n)) number c.in_ok-place.ensures.named in
     let yes : c.is_passed.result ≡ true = search rules in
     let passed = sym (reached claim.writer claim.source a.commits books.passes.now are.passes) ∙ (sym c.is_passed.ensures ∙ yes) in
     keyed_one a books.names.now (plain_keys c.args.keys.now) (plain_keys (record { keys = c.push.new.self; outputs = c.in_ok-keys.field-0 })) claim c.in_ok-place.place c.in_ok-key.key c.in_ok-keys.field-0
