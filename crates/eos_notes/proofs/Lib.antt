@@ -14,5 +14,6 @@ pub mod SegmentsPassed
 pub mod PartitionRows
 pub mod SourceRows
 pub mod CountedRows
+pub mod CountedLooks
 pub mod TalliesFirstNamed
 pub mod TalliesWhole

@@ -5,6 +5,7 @@ ghost use Rattle.eos_base.specs.declared.partition_name.PartitionName.{Partition
 ghost use Rattle.eos_claims.specs.Outputs.{Application, committed_offset};
 ghost use Rattle.eos_commits.specs.Plain.{plain_commit};
 ghost use Rattle.eos_fold.specs.Parts.{part_name};
+ghost use Rattle.eos_fold.specs.declared.item.Item.{Item};
 ghost use Rattle.eos_commits.specs.Applications.{is_part_of, inputs_in, inputs_below, parts_of};
 ghost use Rattle.eos_notes.specs.CommitNotes.{past_end_at, nothing_by, behind_by};
 ghost use Rattle.eos_notes.specs.steps.Counted.{past_end_if, count_visible, count_below};
@@ -13,7 +14,8 @@ use crate::note::Note;
 use eos_base::{PartitionName, is_below, sum};
 use eos_commits::{CommitRef, TopicSet, is_visible};
 use eos_evidence::GroupId;
-use eos_kept::{ItemRef, Part};
+use eos_fold::Fate;
+use eos_kept::{KeptBatch, KeptBatches, Part};
 use std::alloc::AllocError;
 
 /// So many visible records, and so many of them below a group's committed offsets.
@@ -133,33 +135,66 @@ pub(crate) fn push_behind(
     Ok(())
 }
 
-/// With one record more.
-fn counted(count: Count, item: &ItemRef<'_>, committed: i64) -> Result<Count, AllocError>
-    ensures inputs { IfOk result (λ c. c.inputs ≡ count.inputs + count_visible (item.now ∷ [])) }
-    ensures below { IfOk result (λ c. c.below ≡ count.below + count_below committed (item.now ∷ [])) }
+/// With a record of this fate and offset more.
+fn counted(count: Count, fate: Fate, offset: u64, committed: i64) -> Result<Count, AllocError>
+    ensures inputs { (item : Item) → fate ≡ item.fate → IfOk result (λ c. c.inputs ≡ count.inputs + count_visible (item ∷ [])) }
+    ensures below { (item : Item) → fate ≡ item.fate → offset ≡ item.offset → IfOk result (λ c. c.below ≡ count.below + count_below committed (item ∷ [])) }
 {
-    if !is_visible(item.fate()) {
+    if !is_visible(fate) {
         return Ok(count);
     }
     let inputs = sum(count.inputs, 1)?;
-    if !is_below(item.offset(), committed) {
+    if !is_below(offset, committed) {
         return Ok(Count { inputs, ..count });
     }
     let below = sum(count.below, 1)?;
     Ok(Count { below, inputs })
 }
 
-/// With the records of a partition.
-fn count_part(count: Count, part: &Part, committed: i64) -> Result<Count, AllocError>
-    ensures inputs { IfOk result (λ c. c.inputs ≡ count.inputs + count_visible part.now.items) }
-    ensures below { IfOk result (λ c. c.below ≡ count.below + count_below committed part.now.items) }
+/// With the records of a batch.
+fn count_batch(before: Count, batch: &KeptBatch<'_>, committed: i64) -> Result<Count, AllocError>
+    ensures inputs { IfOk result (λ c. c.inputs ≡ before.inputs + count_visible batch.now) }
+    ensures below { IfOk result (λ c. c.below ≡ before.below + count_below committed batch.now) }
 {
-    let mut so_far = count;
-    let mut records = part.items().cursor();
-    while let Some(item) = records.next() {
-        so_far = counted(so_far, &item, committed)?;
+    let mut count = before;
+    for i in 0..batch.len() {
+        let look = batch.look(i);
+        count = counted(count, look.fate, look.offset, committed)?;
     }
-    Ok(so_far)
+    Ok(count)
+}
+
+/// With the records of batches.
+fn count_batches(
+    before: Count,
+    mut batches: KeptBatches<'_>,
+    committed: i64,
+) -> Result<Count, AllocError>
+    ensures inputs { IfOk result (λ c. c.inputs ≡ before.inputs + count_visible batches.entry) }
+    ensures below { IfOk result (λ c. c.below ≡ before.below + count_below committed batches.entry) }
+{
+    let mut count = before;
+    while let Some(batch) = batches.next() {
+        count = count_batch(count, &batch, committed)?;
+    }
+    Ok(count)
+}
+
+/// With the records of a partition.
+fn count_part(before: Count, part: &Part, committed: i64) -> Result<Count, AllocError>
+    ensures inputs { IfOk result (λ c. c.inputs ≡ before.inputs + count_visible part.now.items) }
+    ensures below { IfOk result (λ c. c.below ≡ before.below + count_below committed part.now.items) }
+{
+    let items = part.items();
+    if let Some(batches) = items.batches() {
+        return count_batches(before, batches, committed);
+    }
+    let mut count = before;
+    let mut records = items.cursor();
+    while let Some(item) = records.next() {
+        count = counted(count, item.fate(), item.offset(), committed)?;
+    }
+    Ok(count)
 }
 
 /// With the records of a partition, if it is of one of these topics.

@@ -4,8 +4,8 @@ use Rattle.eos_notes.proofs.groups.count_part.Given as goal
 
 -- those counted, and what is left
 abbrev pub invariant-loop-item : goal.invariant-loop-item
-invariant-loop-item l = (l.so_far.inputs + count_visible l.records ≡ l.fn.count.inputs + count_visible l.part.items)
-    × (l.so_far.below + count_below l.committed l.records ≡ l.fn.count.below + count_below l.committed l.part.items)
+invariant-loop-item l = (l.count.inputs + count_visible l.records ≡ l.fn.before.inputs + count_visible l.part.items)
+    × (l.count.below + count_below l.committed l.records ≡ l.fn.before.below + count_below l.committed l.part.items)
 
 abbrev pub decreases-loop-item : goal.decreases-loop-item
 decreases-loop-item l = length l.records
