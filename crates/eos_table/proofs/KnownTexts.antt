@@ -10,7 +10,7 @@ use Rattle.eos_base.specs.declared.record_fault.RecordFault.TheVariants as fault
 use Rattle.eos_base.specs.Fallible.{must}
 use Rattle.eos_base.specs.Records.{present}
 use Rattle.eos_wire.specs.Numbers.{IsBytes, bytes_at, i8_text, i16_text, i32_text, i64_text, i8_at, i16_at, i32_at, i64_at}
-use Rattle.eos_wire.specs.Texts.{AreTexts}
+use Rattle.eos_wire.specs.Texts.{AreTexts, IsSectionText}
 use Rattle.eos_wire.specs.FieldWriting.{section_text}
 use Rattle.eos_wire.specs.declared.form.Form.{Form}
 use Rattle.eos_wire.specs.declared.form.Form.TheVariants.{Plain, Flexible}
@@ -19,13 +19,13 @@ use Rattle.eos_wire.proofs.Takes.{cut_sound, ok_is}
 use Rattle.eos_txnlog.specs.declared.partitions.TopicPartitions.{TopicPartitions}
 use Rattle.eos_txnlog.specs.declared.value.TxnValue.{TxnValue}
 use Rattle.eos_txnlog.specs.Status.{status_number}
-use Rattle.eos_txnlog.specs.Text.{form_of, IsNumberText, IsTopicText, IsPartitionsText, IsValueText}
+use Rattle.eos_txnlog.specs.Text.{form_of, IsNumberText, IsTopicText, IsPartitionsText, IsBodyText, IsValueText}
 use Rattle.eos_txnlog.specs.steps.Text.{FitNumbers}
 use Rattle.eos_txnlog.specs.Reading.{read_value}
 use Rattle.eos_txnlog.specs.Writing.{fits_partitions, partitions_text, head_text, tail_text, value_text, write_value}
 use Rattle.eos_txnlog.proofs.ValueTexts.{value_whole}
-use Rattle.eos_txnlog.proofs.WrittenTexts.{value_written}
-use Rattle.eos_table.specs.steps.Known.{version_of, with_set, IsAround, IsSetText}
+use Rattle.eos_txnlog.proofs.WrittenTexts.{partitions_written}
+use Rattle.eos_table.specs.steps.Known.{version_of, section_in, with_set, IsAround, IsSetText}
 
 known : (form : Form) → form_of (version_of form) ≡ Some form
 known Plain = refl
@@ -33,16 +33,23 @@ known Flexible = refl
 
 -- ---- a text that was read before is read again
 
-pub around_value : (form : Form) (bytes text : List ℕ) (v r : TxnValue) (ps : List TopicPartitions) → IsAround form bytes text v → IsSetText form text ps → r ≡ with_set v ps → read_value bytes ≡ Ok r
-around_value form bytes text v r ps a s is =
-    let w : TxnValue = with_set v ps in
-    let written : IsValueText (value_text (version_of form) form w) w = value_written (version_of form) form w (known form) s.fits (record {
-      head = record { producer = a.head.producer; epoch = a.head.epoch; timeout = a.head.timeout };
-      tail = record { last_update = a.tail.last_update; start = a.tail.start };
-      numbers = s.numbers;
-    }) in
-    let same : bytes ≡ value_text (version_of form) form w = a.parts ∙ ap (λ (t : List ℕ). i16_text (version_of form) ++ (head_text v ++ (t ++ tail_text form v))) s.is in
-    subst (λ (z : TxnValue). read_value bytes ≡ Ok z) (sym is) (value_whole bytes w (subst (λ (b : List ℕ). IsValueText b w) (sym same) written))
+head_first : (a b c d x : List ℕ) → a ++ (b ++ (c ++ (d ++ x))) ≡ (a ++ (b ++ (c ++ d))) ++ x
+head_first a b c d x = simp append_assoc
+
+pub around_value : (form : Form) (bytes text section : List ℕ) (v r : TxnValue) (ps : List TopicPartitions) → IsAround form bytes text section v → IsSetText form text ps → r ≡ with_set v ps → read_value bytes ≡ Ok r
+around_value form bytes text section v r ps a s is =
+    let end : List ℕ = text ++ (i64_text v.last_update ++ (i64_text v.start ++ section)) in
+    let body : IsBodyText form (head_text v ++ end) (with_set v ps) = record {
+      partitions = text;
+      section = section;
+      head_fits = record { producer = a.head.producer; epoch = a.head.epoch; timeout = a.head.timeout };
+      tail_fits = record { last_update = a.tail.last_update; start = a.tail.start };
+      partitions_text = subst (λ (t : List ℕ). IsPartitionsText form t ps) (sym s.is) (partitions_written form ps s.fits s.numbers);
+      section_text = a.tagged;
+      parts = sym (head_first (i64_text v.producer) (i16_text v.epoch) (i32_text v.timeout) (i8_text (status_number v.status)) end);
+    } in
+    let whole : IsValueText bytes (with_set v ps) = record { version = version_of form; form = form; body = head_text v ++ end; known = known form; body_text = body; parts = a.parts } in
+    subst (λ (z : TxnValue). read_value bytes ≡ Ok z) (sym is) (value_whole bytes (with_set v ps) whole)
 
 -- ---- where the partitions stand in what is written
 
@@ -88,7 +95,7 @@ partitions_fit : (form : Form) (text : List ℕ) (ps : List TopicPartitions) →
 partitions_fit form text ps (inl l) = topics_fit form l.1 ps l.3
 partitions_fit form text ps (inr n) = subst (All FitNumbers) (sym n.1) (All-nil FitNumbers)
 
-around_set : (form : Form) (bytes text : List ℕ) (v w : TxnValue) → IsAround form bytes text v → write_value (version_of form) w ≡ Ok bytes → IsValueText bytes w → IsSetText form text w.partitions
+around_set : (form : Form) (bytes text : List ℕ) (v w : TxnValue) → IsAround form bytes text (section_text form) v → write_value (version_of form) w ≡ Ok bytes → IsValueText bytes w → IsSetText form text w.partitions
 around_set form bytes text v w a e k =
     let d = is_written form w bytes e in
     let version = i16_text (version_of form) in
@@ -104,10 +111,16 @@ version_held : (form : Form) → to_z w16 (of_z w16 (version_of form)) ≡ versi
 version_held Plain = to_z-of_z w16 (pos 0) (record { sfits = omega arith })
 version_held Flexible = to_z-of_z w16 (pos 1) (record { sfits = omega arith })
 
-pub kept_set : (form found : Form) (bytes written text : List ℕ) (v w : TxnValue) (version : ℤ) → IsAround found bytes text v → found ≡ form → bytes ≡ written → version ≡ version_of form
+-- the section without a field, in either form
+section_empty : (form : Form) (section : List ℕ) → section ≡ section_text Flexible → section_in form section ≡ section_text form
+section_empty Plain section e = refl
+section_empty Flexible section e = e
+
+pub kept_set : (form found : Form) (bytes written text section : List ℕ) (v w : TxnValue) (version : ℤ) → IsAround found bytes text (section_in found section) v → section ≡ section_text Flexible → found ≡ form → bytes ≡ written → version ≡ version_of form
     → write_value (to_z w16 (of_z w16 version)) w ≡ Ok written → IsValueText written w → IsSetText form text w.partitions
-kept_set form found bytes written text v w version a same is known_version e k =
-    let own : IsAround form written text v = subst (λ (f : Form). IsAround f written text v) same (subst (λ (b : List ℕ). IsAround found b text v) is a) in
+kept_set form found bytes written text section v w version a empty same is known_version e k =
+    let plain : IsAround found bytes text (section_text found) v = subst (λ (z : List ℕ). IsAround found bytes text z v) (section_empty found section empty) a in
+    let own : IsAround form written text (section_text form) v = subst (λ (f : Form). IsAround f written text (section_text f) v) same (subst (λ (b : List ℕ). IsAround found b text (section_text found) v) is plain) in
     around_set form written text v w own (subst (λ (z : ℤ). write_value z w ≡ Ok written) (ap (λ (z : ℤ). to_z w16 (of_z w16 z)) known_version ∙ version_held form) e) k
 
 -- ---- the fields, one after the other
@@ -119,9 +132,9 @@ all_taken n bytes rest left whole e =
     s.parts ∙ (ap (λ (z : List ℕ). rest ++ z) none ∙ append-nil rest)
 
 -- numbers as the program holds them
-held : (form : Form) (bytes text : List ℕ) (v : TxnValue) → IsAround form bytes text v
-    → IsAround form bytes text (record { producer = to_z w64 (of_z w64 v.producer); epoch = to_z w16 (of_z w16 v.epoch); timeout = to_z w32 (of_z w32 v.timeout); status = v.status; partitions = v.partitions; last_update = to_z w64 (of_z w64 v.last_update); start = to_z w64 (of_z w64 v.start) })
-held form bytes text v a =
+held : (form : Form) (bytes text section : List ℕ) (v : TxnValue) → IsAround form bytes text section v
+    → IsAround form bytes text section (record { producer = to_z w64 (of_z w64 v.producer); epoch = to_z w16 (of_z w16 v.epoch); timeout = to_z w32 (of_z w32 v.timeout); status = v.status; partitions = v.partitions; last_update = to_z w64 (of_z w64 v.last_update); start = to_z w64 (of_z w64 v.start) })
+held form bytes text section v a =
     let p = to_z-of_z w64 v.producer a.head.producer in
     let e = to_z-of_z w16 v.epoch a.head.epoch in
     let t = to_z-of_z w32 v.timeout a.head.timeout in
@@ -129,17 +142,14 @@ held form bytes text v a =
     let s = to_z-of_z w64 v.start a.tail.start in
     let same : v ≡ record { producer = to_z w64 (of_z w64 v.producer); epoch = to_z w16 (of_z w16 v.epoch); timeout = to_z w32 (of_z w32 v.timeout); status = v.status; partitions = v.partitions; last_update = to_z w64 (of_z w64 v.last_update); start = to_z w64 (of_z w64 v.start) }
     = λ i. record { producer = sym p i; epoch = sym e i; timeout = sym t i; status = v.status; partitions = v.partitions; last_update = sym l i; start = sym s i } in
-    subst (λ (z : TxnValue). IsAround form bytes text z) same a
+    subst (λ (z : TxnValue). IsAround form bytes text section z) same a
 
-head_first : (a b c d x : List ℕ) → a ++ (b ++ (c ++ (d ++ x))) ≡ (a ++ (b ++ (c ++ d))) ++ x
-head_first a b c d x = simp append_assoc
-
-module _ (form : Form) (bytes r1 r2 r3 r4 r5 r6 r7 r8 r9 text rest : List ℕ) (v : TxnValue) (version number : ℤ) (n m : ℕ) where
+module _ (form : Form) (bytes r1 r2 r3 r4 r5 r6 r7 r8 r9 text rest section : List ℕ) (v : TxnValue) (version number : ℤ) (n m : ℕ) where
   pub around_read : IsBytes bytes → i16_at bytes ≡ Some (version, r1) → version_of form ≡ version → i64_at r1 ≡ Some (v.producer, r2) → i16_at r2 ≡ Some (v.epoch, r3) → i32_at r3 ≡ Some (v.timeout, r4)
       → i8_at r4 ≡ Some (number, r5) → status_number v.status ≡ number → bytes_at n r5 ≡ Some (text, r6) → i64_at r6 ≡ Some (v.last_update, r7) → i64_at r7 ≡ Some (v.start, r8)
-      → m ≡ length r8 → bytes_at m r8 ≡ Some (rest, r9) → rest ≡ section_text form
-      → IsAround form bytes text (record { producer = to_z w64 (of_z w64 v.producer); epoch = to_z w16 (of_z w16 v.epoch); timeout = to_z w32 (of_z w32 v.timeout); status = v.status; partitions = v.partitions; last_update = to_z w64 (of_z w64 v.last_update); start = to_z w64 (of_z w64 v.start) })
-  around_read fits e0 same e1 e2 e3 e4 is e5 e6 e7 whole e8 section =
+      → m ≡ length r8 → bytes_at m r8 ≡ Some (rest, r9) → rest ≡ section → IsSectionText form section
+      → IsAround form bytes text section (record { producer = to_z w64 (of_z w64 v.producer); epoch = to_z w16 (of_z w16 v.epoch); timeout = to_z w32 (of_z w32 v.timeout); status = v.status; partitions = v.partitions; last_update = to_z w64 (of_z w64 v.last_update); start = to_z w64 (of_z w64 v.start) })
+  around_read fits e0 same e1 e2 e3 e4 is e5 e6 e7 whole e8 ends tagged =
       let s0 = i16_sound bytes (version, r1) fits e0 in
       let s1 = i64_sound r1 (v.producer, r2) s0.rest_fits e1 in
       let s2 = i16_sound r2 (v.epoch, r3) s1.rest_fits e2 in
@@ -149,16 +159,17 @@ module _ (form : Form) (bytes r1 r2 r3 r4 r5 r6 r7 r8 r9 text rest : List ℕ) (
       let fits6 : IsBytes r6 = IsBytes-append_right text r6 (subst IsBytes s5.parts s4.rest_fits) in
       let s6 = i64_sound r6 (v.last_update, r7) fits6 e6 in
       let s7 = i64_sound r7 (v.start, r8) s6.rest_fits e7 in
-      let p7 : r7 ≡ i64_text v.start ++ section_text form = s7.parts ∙ ap (λ (z : List ℕ). i64_text v.start ++ z) (all_taken m r8 rest r9 whole e8 ∙ section) in
-      let p6 : r6 ≡ tail_text form v = s6.parts ∙ ap (λ (z : List ℕ). i64_text v.last_update ++ z) p7 in
-      let p5 : r5 ≡ text ++ tail_text form v = s5.parts ∙ ap (λ (z : List ℕ). text ++ z) p6 in
-      let p4 : r4 ≡ i8_text (status_number v.status) ++ (text ++ tail_text form v) = s4.parts ∙ (ap (λ (z : ℤ). i8_text z ++ r5) (sym is) ∙ ap (λ (z : List ℕ). i8_text (status_number v.status) ++ z) p5) in
+      let p7 : r7 ≡ i64_text v.start ++ section = s7.parts ∙ ap (λ (z : List ℕ). i64_text v.start ++ z) (all_taken m r8 rest r9 whole e8 ∙ ends) in
+      let p6 : r6 ≡ (i64_text v.last_update ++ (i64_text v.start ++ section)) = s6.parts ∙ ap (λ (z : List ℕ). i64_text v.last_update ++ z) p7 in
+      let p5 : r5 ≡ text ++ (i64_text v.last_update ++ (i64_text v.start ++ section)) = s5.parts ∙ ap (λ (z : List ℕ). text ++ z) p6 in
+      let p4 : r4 ≡ i8_text (status_number v.status) ++ (text ++ (i64_text v.last_update ++ (i64_text v.start ++ section))) = s4.parts ∙ (ap (λ (z : ℤ). i8_text z ++ r5) (sym is) ∙ ap (λ (z : List ℕ). i8_text (status_number v.status) ++ z) p5) in
       let p3 = s3.parts ∙ ap (λ (z : List ℕ). i32_text v.timeout ++ z) p4 in
       let p2 = s2.parts ∙ ap (λ (z : List ℕ). i16_text v.epoch ++ z) p3 in
       let p1 = s1.parts ∙ ap (λ (z : List ℕ). i64_text v.producer ++ z) p2 in
-      let p : r1 ≡ head_text v ++ (text ++ tail_text form v) = p1 ∙ head_first (i64_text v.producer) (i16_text v.epoch) (i32_text v.timeout) (i8_text (status_number v.status)) (text ++ tail_text form v) in
-      held form bytes text v (record {
+      let p : r1 ≡ head_text v ++ (text ++ (i64_text v.last_update ++ (i64_text v.start ++ section))) = p1 ∙ head_first (i64_text v.producer) (i16_text v.epoch) (i32_text v.timeout) (i8_text (status_number v.status)) (text ++ (i64_text v.last_update ++ (i64_text v.start ++ section))) in
+      held form bytes text section v (record {
         head = record { producer = s1.small; epoch = s2.small; timeout = s3.small };
         tail = record { last_update = s6.small; start = s7.small };
+        tagged = tagged;
         parts = s0.parts ∙ (ap (λ (z : ℤ). i16_text z ++ r1) (sym same) ∙ ap (λ (z : List ℕ). i16_text (version_of form) ++ z) p);
       })

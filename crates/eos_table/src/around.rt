@@ -1,9 +1,10 @@
 //! A value of the transaction log in two: the fields around its partitions, and their text.
 
 ghost use Rattle.std.specs.Prelude.{◌≡◌, true, IfSome};
-ghost use Rattle.eos_wire.specs.FieldWriting.{section_text};
-ghost use Rattle.eos_table.specs.steps.Known.{version_of, IsAround};
+ghost use Rattle.eos_wire.specs.Texts.{IsSectionText};
+ghost use Rattle.eos_table.specs.steps.Known.{version_of, section_in, IsAround};
 
+use crate::section::Section;
 use eos_base::Listed;
 use eos_txnlog::{Status, TxnValue};
 use eos_wire::{Fields, Form, are_bytes};
@@ -48,28 +49,36 @@ pub(crate) fn is_same(a: Form, b: Form) -> bool
     )
 }
 
-/// The bytes after the partitions: two times, and a section without a field.
-fn tail_len(form: Form) -> usize {
-    match form {
-        Form::Plain => 16,
-        Form::Flexible => 17,
-    }
+/// The form of a value, by its version.
+pub(crate) fn form_in(value: &[u8]) -> Option<Form> {
+    let version = Fields::new(value).i16()?;
+    form_of(version)
 }
 
-/// Whether it is a section without a field.
-#[tactic(auto, unfolding(eos_wire::specs::Writing::uvarint_of, eos_wire::specs::Writing::groups_of))]
-fn is_section(rest: &[u8], form: Form) -> bool
-    ensures { result ≡ true → rest.now ≡ section_text form }
+/// The bytes of a value's section, where this is the one of the flexible form.
+fn section_in<'a>(form: Form, section: &'a Section) -> &'a [u8]
+    ensures value { result.now ≡ section_in form section.now }
+    ensures tagged { IsSectionText form result.now }
 {
     match form {
-        Form::Plain => rest.is_empty(),
-        Form::Flexible => rest == b"\x00".as_slice(),
+        Form::Plain => b"".as_slice(),
+        Form::Flexible => section.as_slice(),
     }
 }
 
-/// The fields of a value and the text of its partitions. None says nothing.
-pub(crate) fn fields_around(alloc: Global, value: &[u8]) -> Option<Around<'_>>
-    ensures { IfSome result (λ found. IsAround found.form value.now found.text.now found.bare) }
+/// How many bytes stand before the partitions.
+pub(crate) const HEAD: usize = 17;
+
+/// How many bytes two times take, behind them.
+pub(crate) const TIMES: usize = 16;
+
+/// The fields of a value and the text of its partitions, where in the flexible form it ends in this section. None says nothing.
+pub(crate) fn fields_around<'a>(
+    alloc: Global,
+    value: &'a [u8],
+    section: &Section,
+) -> Option<Around<'a>>
+    ensures { IfSome result (λ found. IsAround found.form value.now found.text.now (section_in found.form section.now) found.bare) }
 {
     are_bytes(value);
     let mut fields = Fields::new(value);
@@ -80,11 +89,12 @@ pub(crate) fn fields_around(alloc: Global, value: &[u8]) -> Option<Around<'_>>
     let timeout = fields.i32()?;
     let number = fields.i8()?;
     let status = Status::from_number(number)?;
-    let text = fields.take(fields.left().saturating_sub(tail_len(form)))?;
+    let end = section_in(form, section);
+    let text = fields.take(fields.left().saturating_sub(TIMES + end.len()))?;
     let last_update = fields.i64()?;
     let start = fields.i64()?;
     let rest = fields.take(fields.left())?;
-    if !is_section(rest, form) {
+    if rest != end {
         return None;
     }
     let bare = TxnValue {

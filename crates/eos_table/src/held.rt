@@ -1,6 +1,6 @@
 //! What is held of the unskipped records of the transaction log, so that later ones can be held against them.
 
-ghost use Rattle.std.specs.Prelude.{◌≡◌, ◌∷◌, [], ◌++◌, List, drop, OnOk};
+ghost use Rattle.std.specs.Prelude.{◌≡◌, ◌∷◌, [], ◌++◌, List, drop, IfOk, OnOk};
 ghost use Rattle.eos_table.specs.declared.mark.Mark.{Mark};
 ghost use Rattle.eos_table.specs.declared.held.Holding.TheVariants.{Each, Apart};
 ghost use Rattle.eos_table.specs.steps.Doubled.{doubled_at};
@@ -31,6 +31,18 @@ pub(crate) struct Held {
     pub homes: Homes,
 }
 
+/// An equal mark, which shares its id's bytes.
+fn copied(mark: &Mark) -> Result<Mark, AllocError>
+    ensures { IfOk result (λ copy. copy ≡ mark.now) }
+{
+    Ok(Mark {
+        partition: mark.partition,
+        offset: mark.offset,
+        id: mark.id.clone()?,
+        producer: mark.producer,
+    })
+}
+
 impl Held {
     /// No record yet, and those to come are held so.
     pub fn new(alloc: Global, holding: Holding) -> Held
@@ -47,14 +59,14 @@ impl Held {
     }
 
     /// Takes up a record. Where it doesn't stand apart from those before, tables are given up.
-    pub fn take(&mut self, mark: Mark) -> Result<(), AllocError>
-        ensures each { self.old.holding ≡ Each → OnOk result ((self.new.holding ≡ Each) × (self.new.marks.items ≡ self.old.marks.items ++ mark ∷ [])) }
+    pub fn take(&mut self, mark: &Mark) -> Result<(), AllocError>
+        ensures each { self.old.holding ≡ Each → OnOk result ((self.new.holding ≡ Each) × (self.new.marks.items ≡ self.old.marks.items ++ mark.now ∷ [])) }
         ensures apart { OnOk result (self.new.holding ≡ Apart → (self.old.holding ≡ Apart) × ((before : List Mark) → Fits self.old.owners self.old.homes before
-            → Fits self.new.owners self.new.homes (before ++ mark ∷ []) × (doubled_at before mark ≡ []))) }
+            → Fits self.new.owners self.new.homes (before ++ mark.now ∷ []) × (doubled_at before mark.now ≡ []))) }
     {
         match self.holding {
-            Holding::Each => Ok(self.marks.push(mark)?),
-            Holding::Apart => self.take_apart(&mark),
+            Holding::Each => Ok(self.marks.push(copied(mark)?)?),
+            Holding::Apart => self.take_apart(mark),
             Holding::Nothing => Ok(()),
         }
     }

@@ -9,8 +9,9 @@ ghost use Rattle.std.specs.Arc.{arc_value};
 ghost use Rattle.eos_table.specs.steps.Known.{IsSetText};
 ghost use Rattle.eos_table.specs.steps.Reads.{content_read};
 
-use crate::around::{Around, fields_around, is_same, version_of};
+use crate::around::{Around, HEAD, TIMES, fields_around, form_in, is_same, version_of};
 use crate::content::{read_id, read_state};
+use crate::section::Section;
 use crate::shared::Sets;
 use crate::value::SharedValue;
 use bytes::Bytes;
@@ -22,8 +23,10 @@ use std::alloc::{AllocError, Global};
 use std::marker::Model;
 use std::sync::Arc;
 
-/// At most so many of either are kept.
+/// At most so many of either are kept, and of a short log so many.
 const MOST: u64 = 16384;
+
+const FEW: u64 = 64;
 
 /// What a record says, as `Content` says it, with shared partitions.
 #[derive(Drop)]
@@ -132,14 +135,14 @@ fn copied(alloc: Global, bytes: &[u8]) -> Result<Vec<u8>, AllocError>
     Ok(copy)
 }
 
-/// In how many slots what was read of so many records is kept.
+/// In how many slots what was read of so many records is kept: a power of two.
 pub(crate) fn slots_for(records: u64) -> u64 {
-    records.clamp(1, MOST)
+    if records <= FEW { FEW } else { MOST }
 }
 
 /// Where the bytes are looked for among so many slots.
 fn slot_of(bytes: &[u8], slots: usize) -> usize {
-    crc32c(bytes) as usize % slots.max(1)
+    crc32c(bytes) as usize & slots.saturating_sub(1)
 }
 
 /// What was read, each at the slot of its bytes; the last one stays there.
@@ -148,6 +151,8 @@ pub(crate) struct Known {
     keys: Vec<Option<KnownKey>>,
     sets: Vec<Option<KnownSet>>,
     shared: Sets,
+    /// In which section values in the flexible form end, as the last one that was read anew.
+    section: Section,
 }
 
 impl Known {
@@ -159,8 +164,12 @@ impl Known {
             keys.push(None)?;
             sets.push(None)?;
         }
-        let shared = Sets::new(alloc, slots)?;
-        Ok(Known { keys, sets, shared })
+        Ok(Known {
+            keys,
+            sets,
+            shared: Sets::new(alloc, slots)?,
+            section: Section::empty(alloc)?,
+        })
     }
 
     fn known_id(&self, key: &[u8]) -> Result<Option<Bytes>, AllocError>
@@ -223,7 +232,7 @@ impl Known {
     fn known_value(&self, alloc: Global, value: &[u8]) -> Result<Option<SharedValue>, AllocError>
         ensures { IfOk result (λ found. IfSome found (λ state. read_value value.now ≡ Ok state)) }
     {
-        let Some(Around { form, text, bare }) = fields_around(alloc, value) else {
+        let Some(Around { form, text, bare }) = fields_around(alloc, value, &self.section) else {
             return Ok(None);
         };
         match self.known_set(form, text)? {
@@ -249,34 +258,48 @@ impl Known {
         Ok(())
     }
 
-    /// Keeps the partitions of a value, by the text that is written for them in this form.
+    /// Takes the section in which a value in the flexible form ends, where its partitions take so many bytes.
+    fn keep_section(&mut self, alloc: Global, value: &[u8], len: usize) -> Result<(), AllocError> {
+        let from = len.saturating_add(HEAD + TIMES).min(value.len());
+        if let Some(section) = Section::of(alloc, &value[from..])? {
+            self.section = section;
+        }
+        Ok(())
+    }
+
+    /// Keeps the partitions of a value that was read, by the text that is written for them in its form, and its section.
     fn keep_written(
         &mut self,
         alloc: Global,
-        form: Form,
+        value: &[u8],
         state: &TxnValue,
         set: &Arc<Partitions, Global>,
     ) -> Result<(), AllocError>
         requires { arc_value set.now ≡ state.now.partitions }
     {
+        let Some(form) = form_in(value) else {
+            return Ok(());
+        };
         let written = match encode_value(alloc, state, version_of(form)) {
             Ok(written) => written,
             Err(RecordFault::OutOfMemory) => return Err(AllocError),
             Err(_) => return Ok(()),
         };
+        let empty = Section::empty(alloc)?;
         let Some(
             Around {
                 form: found,
                 text,
                 ..
             },
-        ) = fields_around(alloc, written.as_slice())
+        ) = fields_around(alloc, written.as_slice(), &empty)
         else {
             return Ok(());
         };
         if !is_same(found, form) {
             return Ok(());
         }
+        self.keep_section(alloc, value, text.len())?;
         self.keep_set(alloc, form, text, set)
     }
 
@@ -290,9 +313,7 @@ impl Known {
         ensures { IfOk result (λ kept. kept ≡ state) }
     {
         let set = self.shared.shared(&state.partitions)?;
-        if let Some(Around { form, .. }) = fields_around(alloc, value) {
-            self.keep_written(alloc, form, &state, &set)?;
-        }
+        self.keep_written(alloc, value, &state, &set)?;
         Ok(SharedValue::new(state, set))
     }
 

@@ -27,6 +27,7 @@ mod owners;
 mod pass;
 mod places;
 mod quick;
+mod section;
 mod settled;
 mod shard;
 mod shared;

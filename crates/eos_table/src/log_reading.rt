@@ -35,14 +35,6 @@ pub(crate) struct LogReading {
     known: Known,
 }
 
-/// A record of a transactional id: where it stands, and its value; none is a tombstone.
-#[derive(Drop)]
-struct TxnRecord {
-    place: Place,
-    id: Bytes,
-    value: Option<SharedValue>,
-}
-
 /// Puts what a record decides at the end.
 fn push_decision(
     decisions: &mut Vec<SharedDecision>,
@@ -60,18 +52,6 @@ fn push_decision(
     };
     decisions.push(SharedDecision::between(id, before, value, kind)?)?;
     Ok(())
-}
-
-/// A record, as later ones are held against it.
-fn mark_at(place: Place, id: &Bytes, value: Option<&SharedValue>) -> Result<Mark, AllocError>
-    ensures { IfOk result (λ mark. mark ≡ record { partition = place.partition; offset = place.offset; id = id.now; producer = producer_of (option_copied value.entry) }) }
-{
-    Ok(Mark {
-        partition: place.partition,
-        offset: place.offset,
-        id: id.clone()?,
-        producer: producer_of(value),
-    })
 }
 
 /// Takes up the fault of a record that may not follow the one of its id before it.
@@ -97,39 +77,44 @@ fn push_refused(
 /// Takes up an unskipped record.
 fn take_step(
     reading: &mut LogReading,
-    place: Place,
-    id: &Bytes,
+    mark: &Mark,
     before: Option<&SharedValue>,
     value: Option<&SharedValue>,
 ) -> Result<(), AllocError>
-    ensures { let step = step_of place.partition place.offset id.now (option_copied before.entry) (option_copied value.entry) in
+    requires { mark.now.producer ≡ producer_of (option_copied value) }
+    ensures { let step = step_of mark.now.partition mark.now.offset mark.now.id (option_copied before.entry) (option_copied value.entry) in
         OnOk result (Takes (readout reading.old) (readout reading.new) (step ∷ []) (step_faults step)) }
 {
-    push_decision(&mut reading.decisions, id, before, value)?;
-    push_refused(&mut reading.faults, place, id, before, value)?;
-    let mark = mark_at(place, id, value)?;
+    let place = Place {
+        partition: mark.partition,
+        offset: mark.offset,
+    };
+    push_decision(&mut reading.decisions, &mark.id, before, value)?;
+    push_refused(&mut reading.faults, place, &mark.id, before, value)?;
     reading.held.take(mark)?;
     Ok(())
 }
 
-/// Takes up a record of a transactional id, unless it is skipped.
+/// Takes up a record of a transactional id, unless it is skipped. None is a tombstone.
 fn take_value(
     alloc: Global,
     reading: &mut LogReading,
     last: &mut SharedValues,
-    written: TxnRecord,
+    mark: Mark,
+    value: Option<SharedValue>,
 ) -> Result<(), AllocError>
-    ensures read { let content = Of written.id written.value in
-        OnOk result (Takes (readout reading.old) (readout reading.new) (step_at (state_of last.old) written.place.partition written.place.offset content) (faults_at (state_of last.old) written.place.partition written.place.offset content)) }
-    ensures last { OnOk result (state_of last.new ≡ next_state (state_of last.old) (Of written.id written.value)) }
+    requires { mark.producer ≡ producer_of value }
+    ensures read { let content = Of mark.id value in
+        OnOk result (Takes (readout reading.old) (readout reading.new) (step_at (state_of last.old) mark.partition mark.offset content) (faults_at (state_of last.old) mark.partition mark.offset content)) }
+    ensures last { OnOk result (state_of last.new ≡ next_state (state_of last.old) (Of mark.id value)) }
 {
-    let TxnRecord { place, id, value } = written;
-    let before = last_of(last, &id);
+    let before = last_of(last, &mark.id);
     let next = value.as_ref();
     if is_shared_skipped(alloc, before, next)? {
         return Ok(());
     }
-    take_step(reading, place, &id, before.flatten(), next)?;
+    take_step(reading, &mark, before.flatten(), next)?;
+    let Mark { id, .. } = mark;
     last.insert(id, value)?;
     Ok(())
 }
@@ -155,8 +140,13 @@ fn take_record(
         }
         Read::Other => Ok(()),
         Read::Of(id, value) => {
-            let written = TxnRecord { place, id, value };
-            take_value(alloc, reading, last, written)
+            let mark = Mark {
+                partition: place.partition,
+                offset: place.offset,
+                id,
+                producer: producer_of(value.as_ref()),
+            };
+            take_value(alloc, reading, last, mark, value)
         }
     }
 }

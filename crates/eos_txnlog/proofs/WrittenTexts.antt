@@ -14,7 +14,7 @@ use Rattle.eos_wire.specs.declared.form.Form.TheVariants.{Plain, Flexible}
 use Rattle.eos_txnlog.specs.declared.partitions.TopicPartitions.{TopicPartitions}
 use Rattle.eos_txnlog.specs.declared.value.TxnValue.{TxnValue}
 use Rattle.eos_wire.specs.Texts.{IsLengthText, IsCountText, IsStringText, AreTexts, IsListText, IsSectionText}
-use Rattle.eos_txnlog.specs.Text.{form_of, IsNumberText, IsKeyText, IsTopicText, IsBodyText, IsValueText}
+use Rattle.eos_txnlog.specs.Text.{form_of, IsNumberText, IsKeyText, IsTopicText, IsPartitionsText, IsBodyText, IsValueText}
 use Rattle.eos_txnlog.specs.steps.Text.{FitNumbers, IsInRange}
 use Rattle.eos_txnlog.specs.Reading.{read_value, read_key}
 use Rattle.eos_wire.specs.FieldWriting.{fits_length, fits_count, length_text, count_text, section_text, string_text}
@@ -35,7 +35,7 @@ count_written : (form : Form) (n : ℕ) → fits_count form n ≡ true → IsCou
 count_written Plain n e = (ltb-true n (2 ^ 31) e, refl)
 count_written Flexible n e = (uvarint_shortest (n + 1) (ltb-true (n + 1) (2 ^ 32) e)).0
 
-section_written : (form : Form) → IsSectionText form (section_text form)
+pub section_written : (form : Form) → IsSectionText form (section_text form)
 section_written Plain = refl
 section_written Flexible = ([], uvarint_of 0, [], (uvarint_shortest 0 (omega arith)).0, refl, sym (append-nil (uvarint_of 0)))
 
@@ -75,18 +75,21 @@ topics_written form (t ∷ ts) e all =
 
 -- ---- values
 
+pub partitions_written : (form : Form) (topics : List TopicPartitions) → fits_partitions form topics ≡ true → All FitNumbers topics → IsPartitionsText form (partitions_text form topics) topics
+partitions_written form topics e all =
+    let b = both (fits_count form (length topics)) (list_all (fits_topic form) topics) e in
+    inl (count_text form (length topics), flat_map (topic_text form) topics, count_written form (length topics) b.0, topics_written form topics b.1 all, refl)
+
 body_written : (form : Form) (value : TxnValue) → fits_partitions form value.partitions ≡ true → IsInRange value → IsBodyText form (body_text form value) value
-body_written form value e range =
-    let b = both (fits_count form (length value.partitions)) (list_all (fits_topic form) value.partitions) e in
-    record {
-      partitions = partitions_text form value.partitions;
-      section = section_text form;
-      head_fits = range.head;
-      tail_fits = range.tail;
-      partitions_text = inl (count_text form (length value.partitions), flat_map (topic_text form) value.partitions, count_written form (length value.partitions) b.0, topics_written form value.partitions b.1 range.numbers, refl);
-      section_text = section_written form;
-      parts = simp append_assoc;
-    }
+body_written form value e range = record {
+  partitions = partitions_text form value.partitions;
+  section = section_text form;
+  head_fits = range.head;
+  tail_fits = range.tail;
+  partitions_text = partitions_written form value.partitions e range.numbers;
+  section_text = section_written form;
+  parts = simp append_assoc;
+}
 
 pub value_written : (version : ℤ) (form : Form) (value : TxnValue) → form_of version ≡ Some form → fits_partitions form value.partitions ≡ true → IsInRange value → IsValueText (value_text version form value) value
 value_written version form value known fits range = record {

@@ -9,4 +9,4 @@ returns-in-Some-2 c =
     let found = c.in-Some.field-0 in
     let set : IsSetText found.form found.text.now (arc_value c.in-Some-2.set) = search rules in
     let is : c.new.result ≡ with_set found.bare (arc_value c.in-Some-2.set) = search rules in
-    around_value found.form c.args.value.now found.text.now found.bare c.new.result (arc_value c.in-Some-2.set) c.in-Some.ensures set is
+    around_value found.form c.args.value.now found.text.now _ found.bare c.new.result (arc_value c.in-Some-2.set) c.in-Some.ensures set is
