@@ -8,7 +8,8 @@
  * markers and its Prepare and Complete records have the epoch that the instance's next transaction starts with. All instances
  * have a transaction open at the same time, then all end theirs. After ROTATE (32000) transactions an instance takes a new
  * producer id. A segment has at most SEGMENT bytes (64 MiB), or one batch. FOLDER must not exist; it grows to at least
- * MEBIBYTES. SEED picks the values (as in segment.c), the number of outputs and their partitions.
+ * MEBIBYTES. SEED picks the values (as in segment.c), the number of outputs and their partitions. With TRANSACTION_VERSION defined the values of the
+ * transaction log end in the tagged field of that version, as brokers write them since KIP-890, and else in none.
  *
  * The first line printed is the verdict, the second says how many bytes, records and segments were written, and the third how many pairs
  * there are of a partition and a producer id that wrote to it.
@@ -227,7 +228,14 @@ static void add_state(struct batch *batch, const char *id, int64_t producer, int
         *v++ = 0;
     }
     v = big(big(v, 0, 8), 0, 8);
+#ifdef TRANSACTION_VERSION
+    *v++ = 1;
+    *v++ = 2;
+    *v++ = 2;
+    v = big(v, TRANSACTION_VERSION, 2);
+#else
     *v++ = 0;
+#endif
     add_pair(batch, key, k - key, value, v - value);
 }
 
