@@ -5,13 +5,16 @@ ghost use Rattle.eos_evidence.specs.Evidence.{segments_of};
 ghost use Rattle.eos_source.specs.steps.Order.{HaveTurns, IsOrder};
 
 use eos_base::in_order;
-use eos_evidence::{Evidence, Partition};
+use eos_evidence::{Evidence, Partition, is_internal_topic};
 use std::alloc::{AllocError, Global};
+
+/// How many offsets of another topic take about as long as one of Kafka's own, whose batches have few records.
+const LONGER: u64 = 3;
 
 /// When a piece is drawn: after all whose turn is less.
 #[derive(Clone, Copy, PartialEq, Eq, PartialOrd, Ord)]
 pub(crate) struct Turn {
-    /// The less, the more offsets the piece has.
+    /// The less, the longer the piece takes.
     pub(crate) rank: u64,
     pub(crate) piece: u64,
 }
@@ -28,14 +31,25 @@ fn offsets_of(shape: &Partition, i: usize) -> u64
     until.saturating_sub(segments[i].base).max(0) as u64
 }
 
-/// The turn of the next piece, which has so many offsets.
-fn push_turn(turns: &mut Vec<Turn>, offsets: u64) -> Result<(), AllocError>
+/// How long a partition's segment takes, about, in offsets of a topic that isn't Kafka's own.
+fn length_of(shape: &Partition, i: usize) -> u64
+    requires { i < length shape.now.segments }
+{
+    let offsets = offsets_of(shape, i);
+    if is_internal_topic(shape.end.topic.as_slice()) {
+        return offsets.saturating_mul(LONGER);
+    }
+    offsets
+}
+
+/// The turn of the next piece, which takes so long.
+fn push_turn(turns: &mut Vec<Turn>, length: u64) -> Result<(), AllocError>
     requires { HaveTurns turns.old.items }
     ensures turns { OnOk result (HaveTurns turns.new.items) }
     ensures len { OnOk result (vec_len turns.new ≡ vec_len turns.old + 1) }
 {
     let turn = Turn {
-        rank: u64::MAX - offsets,
+        rank: u64::MAX - length,
         piece: turns.len() as u64,
     };
     turns.push(turn)?;
@@ -49,7 +63,7 @@ fn push_turns(turns: &mut Vec<Turn>, shape: &Partition) -> Result<(), AllocError
     ensures len { OnOk result (vec_len turns.new ≡ vec_len turns.old + length shape.now.segments) }
 {
     for i in 0..shape.segments.len() {
-        push_turn(turns, offsets_of(shape, i))?;
+        push_turn(turns, length_of(shape, i))?;
     }
     Ok(())
 }
@@ -66,7 +80,7 @@ fn turns_of(alloc: Global, shapes: &[Partition]) -> Result<Vec<Turn>, AllocError
     Ok(turns)
 }
 
-/// The pieces of an evidence of this shape, each once: those first that have the most offsets.
+/// The pieces of an evidence of this shape, each once: those first that take longest.
 pub(crate) fn order_of(alloc: Global, shape: &Evidence) -> Result<Vec<u64>, AllocError>
     ensures { IfOk result (λ order. IsOrder (length (segments_of shape.now.partitions)) order.items) }
 {
