@@ -1,10 +1,9 @@
 //! The verdict over logs, by their phases, one after the other.
 
-ghost use Rattle.std.specs.Prelude.{◌≡◌, ◌+◌, List, IfOk, IfSome, MatchResult, Ok};
+ghost use Rattle.std.specs.Prelude.{◌≡◌, ◌+◌, List, IfOk, IfSome, Ok};
 ghost use Rattle.std.specs.Thread.{IsSync};
-ghost use Rattle.eos_base.specs.Least.{NoneStands, IsLeast};
 ghost use Rattle.eos_check.specs.Judged.{IsJudged, IsVerdictOver};
-ghost use Rattle.eos_check.specs.steps.Phases.{IsTransacted};
+ghost use Rattle.eos_check.specs.steps.Phases.{IsLogAnswer, IsTransacted};
 ghost use Rattle.eos_commits.specs.Faults.{AreInOrder};
 ghost use Rattle.eos_evidence.specs.declared.application.App.{App};
 ghost use Rattle.eos_fold.specs.Parts.{PartLog};
@@ -12,22 +11,20 @@ ghost use Rattle.eos_lineage.specs.Faults.{IsAnswer};
 ghost use Rattle.eos_kept.specs.Faults.{first_of};
 ghost use Rattle.eos_verdict.specs.declared.verdict.Fault.TheVariants.{Partition};
 ghost use Rattle.eos_verdict.specs.declared.verdict.Verdict.TheVariants.{No};
-ghost use Rattle.eos_table.specs.LogFaults.{log_cmp, Stands as StandsInLog};
-ghost use Rattle.eos_table.specs.TransactionLog.{transaction_parts, AreInOrder as LogInOrder, decisions_of};
 
-use crate::phases::{LogAnswer, copied, decided};
+use crate::phases::{LogAnswer, copied, decided, log_answer};
 use eos_base::Workers;
 use eos_evidence::Spec;
 use eos_fold::PartitionFault;
 use eos_kept::{Logs, Part};
 use eos_lineage::{LineageCounts, LineageFault, check_lineage_by};
-use eos_table::{is_of_transaction_log, txn_log};
+use eos_table::is_of_transaction_log;
 use eos_verdict::{Counts, Fault, Verdict};
 use std::alloc::{AllocError, Global};
 use std::thread::{Threads, join};
 
 /// So many times as long as a record of another log keeps the lineage, one of the transaction log keeps its reading, about.
-const LONGER: u64 = 4;
+const LONGER: u64 = 2;
 
 /// Logs of an evidence with this manifest, and at most how many threads judge them.
 #[derive(Clone, Copy)]
@@ -42,6 +39,13 @@ pub struct Judging<'a> {
 struct Sound<'a> {
     spec: &'a Spec,
     parts: &'a [Part],
+}
+
+/// Which of two takes longer.
+#[derive(Clone, Copy)]
+enum Longer {
+    TransactionLog,
+    Lineage,
 }
 
 /// What the lineage answers.
@@ -62,21 +66,31 @@ fn counts_of(parts: &[Part]) -> (u64, u64) {
 }
 
 /// All workers but one, where the lineage by these beside the reading of the transaction log takes less time than by all of them after
-/// it.
-fn others_of(parts: &[Part], workers: Workers) -> Option<Workers>
+/// it, by the numbers of their records.
+fn others_of(counts: (u64, u64), workers: Workers) -> Option<Workers>
     ensures { IfSome result (λ others. others + 1 ≡ workers) }
 {
     let others = Workers::new(workers.get() - 1)?;
-    let (log, all) = counts_of(parts);
+    let (log, all) = counts;
     if log.saturating_mul(LONGER * workers.get() * others.get()) < all {
         return None;
     }
     Some(others)
 }
 
+/// Which takes longer where one worker reads the transaction log and the others look at the lineage, of which one goes over the commits.
+fn longer_of(counts: (u64, u64), workers: Workers) -> Longer {
+    let (log, all) = counts;
+    if log.saturating_mul(workers.get()) < all {
+        Longer::Lineage
+    } else {
+        Longer::TransactionLog
+    }
+}
+
 /// What the transaction log and the lineage answer, at the same time: the first by the caller's thread, the second by so many others,
 /// of which one does this work behind it.
-fn side_by_side<R: Threads + Sync, T: Send + Drop, W: FnOnce() -> T + Send>(
+fn beside_long_log<R: Threads + Sync, T: Send + Drop, W: FnOnce() -> T + Send>(
     alloc: Global,
     rt: &R,
     sound: Sound<'_>,
@@ -84,8 +98,7 @@ fn side_by_side<R: Threads + Sync, T: Send + Drop, W: FnOnce() -> T + Send>(
     work: W,
 ) -> (Result<LogAnswer, AllocError>, Lined, T)
     requires { W.pre work }
-    ensures log { let log = transaction_parts sound.entry.parts.now in LogInOrder log → IfOk result.0 (λ answer. MatchResult answer
-        (λ ds. NoneStands (StandsInLog log) × (ds.items ≡ decisions_of log)) (IsLeast log_cmp (StandsInLog log))) }
+    ensures log { IfOk result.0 (IsLogAnswer sound.entry.parts.now) }
     ensures lineage { AreInOrder sound.entry.parts.now → IfOk result.1 (IsAnswer sound.entry.spec.now.apps sound.entry.parts.now) }
     ensures work { W.post work result.2 }
 {
@@ -102,9 +115,41 @@ fn side_by_side<R: Threads + Sync, T: Send + Drop, W: FnOnce() -> T + Send>(
             (lineage, work())
         },
         || -> Result<LogAnswer, AllocError>
-            ensures { let log = transaction_parts parts.entry.now in LogInOrder log → IfOk result (λ answer. MatchResult answer
-                (λ ds. NoneStands (StandsInLog log) × (ds.items ≡ decisions_of log)) (IsLeast log_cmp (StandsInLog log))) }
-        { txn_log(alloc, parts) },
+            ensures { IfOk result (IsLogAnswer parts.entry.now) }
+        { log_answer(alloc, parts) },
+    );
+    (log, lineage, worked)
+}
+
+/// The same, the lineage by as many of which the caller's thread is one, and this work by the other behind the reading of the
+/// transaction log.
+fn beside_long_lineage<R: Threads + Sync, T: Send + Drop, W: FnOnce() -> T + Send>(
+    alloc: Global,
+    rt: &R,
+    sound: Sound<'_>,
+    others: Workers,
+    work: W,
+) -> (Result<LogAnswer, AllocError>, Lined, T)
+    requires { W.pre work }
+    ensures log { IfOk result.0 (IsLogAnswer sound.entry.parts.now) }
+    ensures lineage { AreInOrder sound.entry.parts.now → IfOk result.1 (IsAnswer sound.entry.spec.now.apps sound.entry.parts.now) }
+    ensures work { W.post work result.2 }
+{
+    let Sound { spec, parts } = sound;
+    let ((log, worked), lineage) = join(
+        rt,
+        move || -> (Result<LogAnswer, AllocError>, T)
+            requires { W.pre work }
+            ensures log { IfOk result.0 (IsLogAnswer parts.entry.now) }
+            ensures work { W.post work result.1 }
+        {
+            let log = log_answer(alloc, parts);
+            (log, work())
+        },
+        || -> Lined
+            requires sync { IsSync R.row }
+            ensures { AreInOrder parts.entry.now → IfOk result (IsAnswer spec.entry.now.apps parts.entry.now) }
+        { check_lineage_by(alloc, rt, others, spec, parts) },
     );
     (log, lineage, worked)
 }
@@ -126,14 +171,13 @@ fn of_lineage(transactions: u64, lineage: Result<LineageCounts, LineageFault>) -
 
 /// The verdict of logs in which no partition has a fault, by what the transactions and the lineage answer.
 fn of_both(
-    spec: &Spec,
-    parts: &[Part],
+    sound: Sound<'_>,
     transacted: Result<u64, Fault>,
     lineage: Lined,
 ) -> Result<Verdict, AllocError>
-    requires transactions { AreInOrder parts.now → IsTransacted parts.now transacted }
-    requires lineage { AreInOrder parts.now → IfOk lineage (IsAnswer spec.now.apps parts.now) }
-    ensures { IfOk result (λ verdict. AreInOrder parts.now → IsVerdictOver spec.now.apps parts.now verdict) }
+    requires transactions { AreInOrder sound.parts.now → IsTransacted sound.parts.now transacted }
+    requires lineage { AreInOrder sound.parts.now → IfOk lineage (IsAnswer sound.spec.now.apps sound.parts.now) }
+    ensures { IfOk result (λ verdict. AreInOrder sound.entry.parts.now → IsVerdictOver sound.entry.spec.now.apps sound.entry.parts.now verdict) }
 {
     match transacted {
         Err(least) => Ok(Verdict::No(least)),
@@ -141,27 +185,7 @@ fn of_both(
     }
 }
 
-/// The verdict of logs in which no partition has a fault, by the transactions and then the lineage.
-fn judge_in_turn<R: Threads + Sync>(
-    alloc: Global,
-    rt: &R,
-    spec: &Spec,
-    parts: &[Part],
-    workers: Workers,
-) -> Result<Verdict, AllocError>
-    ensures { IfOk result (λ verdict. AreInOrder parts.now → IsVerdictOver spec.now.apps parts.now verdict) }
-{
-    let log = txn_log(alloc, parts)?;
-    match decided(alloc, rt, log, parts, workers)? {
-        Err(fault) => Ok(Verdict::No(fault)),
-        Ok(transactions) => {
-            let lineage = check_lineage_by(alloc, rt, workers, spec, parts)?;
-            Ok(of_lineage(transactions, lineage))
-        }
-    }
-}
-
-/// The same by what the transaction log and the lineage answer.
+/// The verdict of logs in which no partition has a fault, by what the transaction log and the lineage answer.
 fn judge_both<R: Threads + Sync>(
     alloc: Global,
     rt: &R,
@@ -169,32 +193,32 @@ fn judge_both<R: Threads + Sync>(
     workers: Workers,
     answers: (Result<LogAnswer, AllocError>, Lined),
 ) -> Result<Verdict, AllocError>
-    requires log { let log = transaction_parts sound.parts.now in LogInOrder log → IfOk answers.0 (λ answer. MatchResult answer
-        (λ ds. NoneStands (StandsInLog log) × (ds.items ≡ decisions_of log)) (IsLeast log_cmp (StandsInLog log))) }
+    requires log { IfOk answers.0 (IsLogAnswer sound.parts.now) }
     requires lineage { AreInOrder sound.parts.now → IfOk answers.1 (IsAnswer sound.spec.now.apps sound.parts.now) }
     ensures { IfOk result (λ verdict. AreInOrder sound.entry.parts.now → IsVerdictOver sound.entry.spec.now.apps sound.entry.parts.now verdict) }
 {
     let (log, lineage) = answers;
     let transacted = decided(alloc, rt, log?, sound.parts, workers)?;
-    of_both(sound.spec, sound.parts, transacted, lineage)
+    of_both(sound, transacted, lineage)
 }
 
-/// The same, the lineage by so many others, and behind it this work, while the transaction log is read.
-fn judge_beside<R: Threads + Sync, T: Send + Drop, W: FnOnce() -> T + Send>(
+/// The same, by the transactions and then the lineage.
+fn judge_in_turn<R: Threads + Sync>(
     alloc: Global,
     rt: &R,
     sound: Sound<'_>,
-    workers: (Workers, Workers),
-    work: W,
-) -> (Result<Verdict, AllocError>, T)
-    requires { W.pre work }
-    ensures verdict { IfOk result.0 (λ verdict. AreInOrder sound.entry.parts.now → IsVerdictOver sound.entry.spec.now.apps sound.entry.parts.now verdict) }
-    ensures work { W.post work result.1 }
+    workers: Workers,
+) -> Result<Verdict, AllocError>
+    ensures { IfOk result (λ verdict. AreInOrder sound.entry.parts.now → IsVerdictOver sound.entry.spec.now.apps sound.entry.parts.now verdict) }
 {
-    let (all, others) = workers;
-    let (log, lineage, worked) = side_by_side(alloc, rt, sound, others, work);
-    let verdict = judge_both(alloc, rt, sound, all, (log, lineage));
-    (verdict, worked)
+    let log = log_answer(alloc, sound.parts)?;
+    match decided(alloc, rt, log, sound.parts, workers)? {
+        Err(fault) => Ok(Verdict::No(fault)),
+        transacted => {
+            let lineage = check_lineage_by(alloc, rt, workers, sound.spec, sound.parts);
+            of_both(sound, transacted, lineage)
+        }
+    }
 }
 
 /// A no for the fault of a partition.
@@ -204,8 +228,33 @@ fn no_of(fault: &PartitionFault) -> Result<Verdict, AllocError>
     Ok(Verdict::No(Fault::Partition(copied(fault)?)))
 }
 
+/// The verdict of logs in which no partition has a fault, and what this work does.
+fn judge_sound<R: Threads + Sync, T: Send + Drop, W: FnOnce() -> T + Send>(
+    alloc: Global,
+    rt: &R,
+    sound: Sound<'_>,
+    workers: Workers,
+    work: W,
+) -> (Result<Verdict, AllocError>, T)
+    requires { W.pre work }
+    ensures verdict { IfOk result.0 (λ verdict. AreInOrder sound.entry.parts.now → IsVerdictOver sound.entry.spec.now.apps sound.entry.parts.now verdict) }
+    ensures work { W.post work result.1 }
+{
+    let counts = counts_of(sound.parts);
+    let Some(others) = others_of(counts, workers) else {
+        let verdict = judge_in_turn(alloc, rt, sound, workers);
+        return (verdict, work());
+    };
+    let (log, lineage, worked) = match longer_of(counts, workers) {
+        Longer::TransactionLog => beside_long_log(alloc, rt, sound, others, work),
+        Longer::Lineage => beside_long_lineage(alloc, rt, sound, others, work),
+    };
+    let verdict = judge_both(alloc, rt, sound, workers, (log, lineage));
+    (verdict, worked)
+}
+
 /// The verdict over these logs, as `judge` gives it, and what this work answers. Where the transaction log is long a thread that has
-/// looked at the lineage does the work meanwhile, and else the caller's does it last.
+/// looked at the lineage does the work meanwhile, where it is short one that has read it, and else the caller's does it last.
 ///
 /// # Errors
 /// Only want of memory.
@@ -227,17 +276,11 @@ pub fn judge_with<R: Threads + Sync, T: Send + Drop, W: FnOnce() -> T + Send>(
     if let Some(fault) = logs.first_fault() {
         return (no_of(fault), work());
     }
-    let parts = logs.parts.as_slice();
-    match others_of(parts, workers) {
-        None => {
-            let verdict = judge_in_turn(alloc, rt, spec, parts, workers);
-            (verdict, work())
-        }
-        Some(others) => {
-            let sound = Sound { spec, parts };
-            judge_beside(alloc, rt, sound, (workers, others), work)
-        }
-    }
+    let sound = Sound {
+        spec,
+        parts: logs.parts.as_slice(),
+    };
+    judge_sound(alloc, rt, sound, workers, work)
 }
 
 /// The verdict over these logs, whole or kept, of an evidence of this spec: the first of the faults that stand beside them, or

@@ -3,11 +3,12 @@
 ghost use Rattle.std.specs.Prelude.{◌≡◌, IfOk};
 ghost use Rattle.eos_base.specs.Least.{IsLeastOrNone};
 ghost use Rattle.eos_table.specs.MatchFaults.{fault_cmp, Stands};
+ghost use Rattle.eos_table.specs.Wanted.{IsWantedOf};
 ghost use Rattle.eos_check.specs.steps.Shards.{lesser_answer, AreSettled};
 
 use eos_base::{Workers, lesser};
 use eos_kept::Part;
-use eos_table::{MatchFault, TxnTable, are_matched, match_shard};
+use eos_table::{MatchFault, TxnTable, WantedTable, are_matched, match_shard};
 use std::alloc::{AllocError, Global};
 use std::thread;
 use std::thread::Threads;
@@ -60,15 +61,16 @@ fn least_of_shards<R: Threads + Sync>(
 pub(crate) fn least_fault<R: Threads + Sync>(
     alloc: Global,
     rt: &R,
-    table: &TxnTable,
+    wanted: &WantedTable,
     parts: &[Part],
     workers: Workers,
 ) -> Result<Option<MatchFault>, AllocError>
-    ensures { IfOk result (IsLeastOrNone fault_cmp (Stands table.now parts.now)) }
+    requires { IsWantedOf parts.now wanted.now }
+    ensures { IfOk result (IsLeastOrNone fault_cmp (Stands wanted.now.0 parts.now)) }
 {
-    let matched = are_matched(alloc, rt, workers, table, parts)?;
+    let matched = are_matched(alloc, rt, workers, wanted, parts)?;
     if matched {
         return Ok(None);
     }
-    least_of_shards(alloc, rt, table, parts, workers)
+    least_of_shards(alloc, rt, wanted.table(), parts, workers)
 }

@@ -1,15 +1,18 @@
 -- The pass over the records, one record further.
-use Rattle.std.proofs.Common.{◌≡◌, ℕ, ℤ, List, [], ◌∷◌, ◌++◌, length, map, drop, fold, refl, sym, ap, subst, ◌∙◌, append_assoc, unsigned_abs, Option, Some, None, Bool, true, false, if◌then◌else◌, cond, suc, ◌+◌, ◌<◌, get_or, drop-cons, add-one}
+use Rattle.std.proofs.Common.{◌≡◌, ℕ, ℤ, List, [], ◌∷◌, ◌++◌, length, map, drop, fold, refl, sym, ap, subst, ◌∙◌, append_assoc, unsigned_abs, Option, Some, None, Bool, true, false, not, if◌then◌else◌, cond, suc, ◌+◌, ◌<◌, get_or, drop-cons, add-one}
 use Rattle.std.specs.List.{flat_map}
 use Rattle.std.specs.Option.{option_map, option_copied, option_flatten}
 use Rattle.std.specs.BTreeMap.{BTreeMap, IsEmpty, is_at}
 use Rattle.std.specs.Map.{lookup}
-use Rattle.std.specs.Ordering.{nat_cmp}
+use Rattle.std.specs.Ordering.{nat_cmp, is_eq}
+use Rattle.std.specs.declared.cmp.Ordering.{Ordering}
+use Rattle.std.specs.declared.cmp.Ordering.TheVariants.{Less, Equal, Greater}
 use Rattle.std.specs.Cmp.Lexicographic.{slice_cmp}
 use Rattle.std.proofs.Common.{Bor}
 use Rattle.std.proofs.lemmas.List.{append-nil, map-append}
 use Rattle.std.proofs.lemmas.List.Concat.{flat_map-append}
 use Rattle.std.proofs.lemmas.List.Sums.{fold-append}
+use Rattle.eos_base.proofs.Exact.{bytes_exact}
 use Rattle.eos_txnlog.specs.declared.value.TxnValue.{TxnValue}
 use Rattle.eos_txnlog.specs.Skips.{is_skipped}
 use Rattle.eos_fold.specs.declared.item.Item.{Item}
@@ -17,7 +20,7 @@ use Rattle.eos_fold.specs.Parts.{PartLog}
 use Rattle.eos_table.specs.declared.content.Content.TheVariants.{Of}
 use Rattle.eos_table.specs.declared.mark.Mark.{Mark}
 use Rattle.eos_verdict.specs.declared.log_fault.LogFault.{LogFault}
-use Rattle.eos_table.specs.TransactionLog.{Id, State, nothing, flat, Unskipped, content_of, step_at, steps_after, next_state, state_after, steps_of, all_steps, decision_of, state_of, transaction_parts, is_transaction_part}
+use Rattle.eos_table.specs.TransactionLog.{Id, State, same_id, nothing, flat, Unskipped, content_of, step_at, steps_after, next_state, state_after, update, steps_of, all_steps, decision_of, state_of, transaction_parts, is_transaction_part}
 use Rattle.eos_table.specs.declared.held.Held.{Held}
 use Rattle.eos_table.specs.declared.held.Holding.{Holding}
 use Rattle.eos_table.specs.declared.held.Holding.TheVariants.{Each, Apart, Nothing}
@@ -114,6 +117,36 @@ unskipped_step last n o id b v old new skip same takes =
 pub skipped_step : (last : State) (n : ℤ) (o : ℕ) (id : Id) (v : Option TxnValue) (q : Readout) → is_skipped (last id) v ≡ true
     → Takes q q (step_at last n o (Of id v)) (faults_at last n o (Of id v))
 skipped_step last n o id v q skip = subst (TakesIf q q (step_of n o id (flat (last id)) v)) (sym skip) (takes_nothing q)
+
+-- what is known after a record of an id that is taken, and after one that isn't
+pub taken_state : (last : State) (id : Id) (v : Option TxnValue) (b : Option (Option TxnValue)) (x : Option TxnValue) (t : Bool) (new : State)
+    → b ≡ last id → x ≡ v → t ≡ not (is_skipped b x) → t ≡ true → new ≡ update last id v → new ≡ next_state last (Of id v)
+taken_state last id v b x t new was now test is e =
+    let skip = not_skipped (is_skipped b x) (sym is ∙ test) in
+    e ∙ sym (ap (λ z. if z then last else update last id v) (ap (λ z. is_skipped z v) (sym was) ∙ (ap (is_skipped b) (sym now) ∙ skip)))
+  where
+    not_skipped : (s : Bool) → true ≡ not s → s ≡ false
+    not_skipped true e = e
+    not_skipped false e = refl
+
+pub left_state : (last : State) (id : Id) (v : Option TxnValue) (b : Option (Option TxnValue)) (x : Option TxnValue) (t : Bool) (new : State)
+    → b ≡ last id → x ≡ v → t ≡ not (is_skipped b x) → t ≡ false → new ≡ last → new ≡ next_state last (Of id v)
+left_state last id v b x t new was now test is e =
+    let skip = skipped (is_skipped b x) (sym is ∙ test) in
+    e ∙ sym (ap (λ z. if z then last else update last id v) (ap (λ z. is_skipped z v) (sym was) ∙ (ap (is_skipped b) (sym now) ∙ skip)))
+  where
+    skipped : (s : Bool) → false ≡ not s → s ≡ true
+    skipped true e = refl
+    skipped false e = e
+
+-- what is known stays where it is written again
+pub same_state : (last new : State) (id : Id) (w : Option TxnValue) → last id ≡ Some w → ((q : Id) → new q ≡ cond (same_id id q) (Some w) (last q)) → new ≡ last
+same_state last new id w was u = λ i q. (u q ∙ kept q (slice_cmp nat_cmp id q) refl) i
+  where
+    kept : (q : Id) (o : Ordering) → slice_cmp nat_cmp id q ≡ o → cond (is_eq o) (Some w) (last q) ≡ last q
+    kept q Equal e = sym was ∙ ap last (bytes_exact id q e)
+    kept q Less e = refl
+    kept q Greater e = refl
 
 -- what is left, one record further
 pub one_record : (st st2 : State) (n : ℤ) (x : Item) (xs : List Item) (a b c : Readout)

@@ -5,3 +5,4 @@ pub mod TransactionLog
 pub mod LogFaults
 pub mod steps
 pub mod MatchPlaces
+pub mod Wanted

@@ -16,24 +16,14 @@ use std::collections::BTreeMap;
 /// The value of the last unskipped record of each transactional id of a partition; none is a tombstone.
 pub type LastValues = BTreeMap<Bytes, Option<TxnValue>>;
 
-/// The last value of this transactional id, of whichever form; none where it has none yet.
-pub(crate) fn last_of<'a, V>(
-    last: &'a BTreeMap<Bytes, Option<V>>,
-    id: &Bytes,
-) -> Option<Option<&'a V>>
-    ensures { option_map option_copied result ≡ get (slice_cmp nat_cmp) last.entry.now id.now }
+/// The last value of this transactional id; none where it has none yet.
+pub fn last_value<'a>(last: &'a LastValues, id: &Bytes) -> Option<Option<&'a TxnValue>>
+    ensures { option_map option_copied result ≡ state_of last.entry.now id.now }
 {
     match last.get(id) {
         None => None,
         Some(value) => Some(value.as_ref()),
     }
-}
-
-/// The last value of this transactional id; none where it has none yet.
-pub fn last_value<'a>(last: &'a LastValues, id: &Bytes) -> Option<Option<&'a TxnValue>>
-    ensures { option_map option_copied result ≡ state_of last.entry.now id.now }
-{
-    last_of(last, id)
 }
 
 /// What a record of this status decides: a Prepare record alone decides.

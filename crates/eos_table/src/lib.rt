@@ -45,3 +45,4 @@ pub use shard::match_shard;
 pub use shared::SharedDecision;
 pub use table::TxnTable;
 pub use transaction_log::{all_log_faults, txn_log};
+pub use wanted::WantedTable;

@@ -1,9 +1,10 @@
 //! One pass over the records of the transaction log.
 
-ghost use Rattle.std.specs.Prelude.{◌≡◌, List, [], ◌∷◌, ◌++◌, drop, fold, unsigned_abs, OnOk, IfOk};
+ghost use Rattle.std.specs.Prelude.{◌≡◌, List, [], ◌∷◌, ◌++◌, drop, fold, not, unsigned_abs, OnOk, IfOk};
 ghost use Rattle.std.specs.List.{flat_map};
-ghost use Rattle.std.specs.Option.{option_copied};
-ghost use Rattle.eos_table.specs.TransactionLog.{content_of, state_of, step_at, steps_after, steps_of, all_steps, next_state, state_after, decision_between, transaction_parts};
+ghost use Rattle.std.specs.Option.{option_copied, option_map};
+ghost use Rattle.eos_txnlog.specs.Skips.{is_skipped};
+ghost use Rattle.eos_table.specs.TransactionLog.{State, content_of, state_of, step_at, steps_after, steps_of, all_steps, next_state, state_after, decision_between, transaction_parts};
 ghost use Rattle.eos_table.specs.declared.content.Content.TheVariants.{Of};
 ghost use Rattle.eos_table.specs.declared.held.Holding.TheVariants.{Each, Apart};
 ghost use Rattle.eos_table.specs.declared.mark.Mark.{Mark};
@@ -12,7 +13,7 @@ ghost use Rattle.eos_table.specs.steps.Held.{readout, Shows, Takes};
 
 use crate::held::{Held, Holding};
 use crate::known::{Known, Read, slots_for};
-use crate::last_values::{is_of_transaction_log, kind_of_status, last_of};
+use crate::last_values::{is_of_transaction_log, kind_of_status};
 use crate::log_faults::LogFaults;
 use crate::mark::{Mark, Place, producer_of};
 use crate::settled::{are_settled, is_open};
@@ -95,6 +96,26 @@ fn take_step(
     Ok(())
 }
 
+/// Takes up a record that follows this one of its id, unless it is skipped, and answers whether it isn't. None is a tombstone.
+fn take_next(
+    alloc: Global,
+    reading: &mut LogReading,
+    mark: &Mark,
+    before: Option<Option<&SharedValue>>,
+    value: Option<&SharedValue>,
+) -> Result<bool, AllocError>
+    requires { mark.now.producer ≡ producer_of (option_copied value) }
+    ensures read { let content = Of mark.now.id (option_copied value.entry) in
+        IfOk result (λ taken. (st : State) → st mark.now.id ≡ option_map option_copied before.entry → Takes (readout reading.old) (readout reading.new) (step_at st mark.now.partition mark.now.offset content) (faults_at st mark.now.partition mark.now.offset content)) }
+    ensures taken { IfOk result (λ taken. taken ≡ not (is_skipped (option_map option_copied before.entry) (option_copied value.entry))) }
+{
+    if is_shared_skipped(alloc, before, value)? {
+        return Ok(false);
+    }
+    take_step(reading, mark, before.flatten(), value)?;
+    Ok(true)
+}
+
 /// Takes up a record of a transactional id, unless it is skipped. None is a tombstone.
 fn take_value(
     alloc: Global,
@@ -108,14 +129,16 @@ fn take_value(
         OnOk result (Takes (readout reading.old) (readout reading.new) (step_at (state_of last.old) mark.partition mark.offset content) (faults_at (state_of last.old) mark.partition mark.offset content)) }
     ensures last { OnOk result (state_of last.new ≡ next_state (state_of last.old) (Of mark.id value)) }
 {
-    let before = last_of(last, &mark.id);
-    let next = value.as_ref();
-    if is_shared_skipped(alloc, before, next)? {
+    let Some(slot) = last.get_mut(&mark.id) else {
+        if take_next(alloc, reading, &mark, None, value.as_ref())? {
+            let Mark { id, .. } = mark;
+            last.insert(id, value)?;
+        }
         return Ok(());
+    };
+    if take_next(alloc, reading, &mark, Some(slot.as_ref()), value.as_ref())? {
+        *slot = value;
     }
-    take_step(reading, &mark, before.flatten(), next)?;
-    let Mark { id, .. } = mark;
-    last.insert(id, value)?;
     Ok(())
 }
 

@@ -1,8 +1,9 @@
 //! The quick walk of the matching: a comparison of numbers in order, which finds that nothing is wrong or says nothing.
 
-ghost use Rattle.std.specs.Prelude.{◌≡◌, ◌<◌, ℕ, Bool, true, length, slice_index_or, IfOk};
+ghost use Rattle.std.specs.Prelude.{◌≡◌, ◌<◌, ℕ, true, length, IfOk};
 ghost use Rattle.eos_base.specs.Least.{NoneStands};
 ghost use Rattle.eos_table.specs.MatchFaults.{Stands};
+ghost use Rattle.eos_table.specs.Wanted.{IsWantedOf};
 ghost use Rattle.eos_table.specs.steps.Wanted.{IsOnce, IsMine, AgreesAt, AgreeAt, IsGood};
 
 use crate::agree::agrees;
@@ -11,9 +12,8 @@ use crate::one_shard::Shard;
 use crate::owners::owners_of;
 use crate::shard::twice_found;
 use crate::shared::SharedDecision;
-use crate::table::TxnTable;
-use crate::wanted::wanted_of;
-use eos_base::{Sorted, Workers};
+use crate::wanted::WantedTable;
+use eos_base::{Sorted, Workers, are_all};
 use eos_fold::Close;
 use eos_kept::Part;
 use std::alloc::{AllocError, Global};
@@ -119,17 +119,6 @@ fn answer_at(alloc: Global, ground: &Ground<'_, '_, '_, '_>, threads: u32, rest:
     }
 }
 
-fn are_all(answers: &[bool]) -> bool
-    ensures { result ≡ true → (i : ℕ) (d : Bool) → i < length answers.now → slice_index_or answers.now i d ≡ true }
-{
-    for answer in answers {
-        if !*answer {
-            return false;
-        }
-    }
-    true
-}
-
 fn are_good<R: Threads + Sync>(
     alloc: Global,
     rt: &R,
@@ -160,22 +149,20 @@ pub fn are_matched<R: Threads + Sync>(
     alloc: Global,
     rt: &R,
     workers: Workers,
-    table: &TxnTable,
+    wanted: &WantedTable,
     parts: &[Part],
 ) -> Result<bool, AllocError>
-    ensures { IfOk result (λ yes. yes ≡ true → NoneStands (Stands table.now parts.now)) }
+    requires { IsWantedOf parts.now wanted.now }
+    ensures { IfOk result (λ yes. yes ≡ true → NoneStands (Stands wanted.now.0 parts.now)) }
 {
-    let decisions = table.decisions();
-    let wanted = wanted_of(alloc, decisions, parts)?;
-    let Some(lists) = wanted else {
+    let Some(lists) = wanted.lists() else {
         return Ok(false);
     };
-    let there = lists.as_slice();
-    let owners = owners_of(alloc, there, workers.get() as usize)?;
+    let owners = owners_of(alloc, lists, workers.get() as usize)?;
     let ground = Ground {
-        decisions,
+        decisions: wanted.table().decisions(),
         parts,
-        lists: there,
+        lists,
         owners: owners.as_slice(),
     };
     are_good(alloc, rt, workers, &ground)

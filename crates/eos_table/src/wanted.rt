@@ -3,15 +3,19 @@
 ghost use Rattle.std.specs.Prelude.{◌≡◌, true, [], ◌∷◌, IfOk, IfSome};
 ghost use Rattle.eos_txnlog.specs.PartitionSets.{name_of, names_in_topic};
 ghost use Rattle.eos_fold.specs.Parts.{part_name};
+ghost use Rattle.std.specs.Option.{option_copied};
+ghost use Rattle.eos_table.specs.Wanted.{IsWantedOf};
 ghost use Rattle.eos_table.specs.steps.Wanted.{wanted_close, wish, wishes_in, wishes_of, wishes, IsAt, IsPut, Have, Take};
 
 use crate::key::{NameRef, name_of_part};
 use crate::shared::SharedDecision;
+use crate::table::TxnTable;
 use bytes::Bytes;
 use eos_fold::Close;
 use eos_kept::Part;
 use eos_txnlog::TopicPartitions;
 use std::alloc::{AllocError, Global};
+use std::marker::Model;
 
 /// The first place whose name is not less, where the parts stand by name.
 fn first_from(parts: &[Part], name: NameRef<'_>) -> usize {
@@ -171,4 +175,59 @@ pub(crate) fn wanted_of(
         }
     }
     Ok(Some(lists))
+}
+
+/// Decisions as a table, and for each part the closes that they want there, if these were found; contracts see the decisions and those.
+#[derive(Drop)]
+pub struct WantedTable {
+    table: TxnTable,
+    lists: Option<Vec<Vec<Close>>>,
+}
+
+impl Model for WantedTable {
+    ghost use Rattle.std.specs.Prelude.{List, Option};
+    ghost use Rattle.std.specs.Option.{option_map};
+    ghost use Rattle.eos_txnlog.specs.declared.decision.Decision.{Decision};
+    ghost use Rattle.eos_table.specs.steps.Wanted.{Lists};
+
+    ghost Value = { List Decision × Option Lists };
+
+    ghost view = { λ w. (w.table, option_map (λ lists. lists.items) w.lists) };
+}
+
+impl WantedTable {
+    /// The table of these decisions, each kept as it is, with what they want of these parts. Where the parts don't stand by name, or one
+    /// that is listed isn't there, that isn't found.
+    ///
+    /// # Errors
+    /// Only want of memory.
+    pub fn of(
+        alloc: Global,
+        decisions: Vec<SharedDecision>,
+        parts: &[Part],
+    ) -> Result<WantedTable, AllocError>
+        ensures decisions { IfOk result (λ wanted. wanted.0 ≡ decisions.items) }
+        ensures lists { IfOk result (IsWantedOf parts.now) }
+    {
+        let table = TxnTable::from_decisions(decisions)?;
+        let lists = wanted_of(alloc, table.decisions(), parts)?;
+        Ok(WantedTable { table, lists })
+    }
+
+    /// The table of the decisions.
+    pub fn table(&self) -> &TxnTable
+        ensures { result.now ≡ self.now.0 }
+    {
+        &self.table
+    }
+
+    /// For each part the closes that the decisions want there, if they were found.
+    pub(crate) fn lists(&self) -> Option<&[Vec<Close>]>
+        ensures { option_copied result ≡ self.now.1 }
+    {
+        match &self.lists {
+            None => None,
+            Some(lists) => Some(lists.as_slice()),
+        }
+    }
 }
