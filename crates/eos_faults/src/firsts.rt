@@ -3,8 +3,8 @@
 ghost use Rattle.std.specs.Prelude.{◌≡◌, ◌++◌, ◌∷◌, [], List, map, option_map, IfOk, OnOk};
 ghost use Rattle.std.specs.BTreeMap.{get};
 ghost use Rattle.eos_claims.specs.Outputs.{PlacedClaim};
-ghost use Rattle.eos_faults.specs.steps.Plain.{claim_at, place_at, by_place};
-ghost use Rattle.eos_faults.specs.steps.Tables.{AreFirsts, ArePlaces, first_seen, lesser_seen, lesser_place as lesser_of_places, by_output};
+ghost use Rattle.eos_faults.specs.steps.Plain.{claim_at, place_at};
+ghost use Rattle.eos_faults.specs.steps.Tables.{AreFirsts, ArePlaces, first_seen, lesser_seen, lesser_place as lesser_of_places, source_key, by_source, output_key, by_output};
 
 use crate::lent::{LentPlace, VisibleClaim};
 use std::alloc::{AllocError, Global};
@@ -18,18 +18,36 @@ pub(crate) struct First<'a> {
     pub at: LentPlace<'a>,
 }
 
+/// A source, in an order in which the offsets decide most comparisons and texts the fewest.
+#[derive(Clone, Copy, PartialEq, Eq, PartialOrd, Ord)]
+pub(crate) struct SourceKey<'a> {
+    offset: u64,
+    partition: i32,
+    topic: &'a [u8],
+}
+
 /// A source, and a number of an output.
 #[derive(Clone, Copy, PartialEq, Eq, PartialOrd, Ord)]
 pub(crate) struct OutputKey<'a> {
-    pub source: LentPlace<'a>,
-    pub output: u32,
+    source: SourceKey<'a>,
+    output: u32,
 }
 
 /// The first claim of each source.
-pub(crate) type Firsts<'a> = BTreeMap<LentPlace<'a>, First<'a>>;
+pub(crate) type Firsts<'a> = BTreeMap<SourceKey<'a>, First<'a>>;
 
 /// The place of the first claim of each source and number.
 pub(crate) type OutputPlaces<'a> = BTreeMap<OutputKey<'a>, LentPlace<'a>>;
+
+fn key_of<'a>(source: &LentPlace<'a>) -> SourceKey<'a>
+    ensures { result ≡ source_key source.now }
+{
+    SourceKey {
+        offset: source.offset,
+        partition: source.partition.partition,
+        topic: source.partition.topic,
+    }
+}
 
 fn lesser_first<'a>(known: Option<First<'a>>, first: First<'a>) -> First<'a>
     ensures { first_seen result ≡ lesser_seen (option_map first_seen known.entry) (first_seen first.entry) }
@@ -53,9 +71,9 @@ fn lesser_first<'a>(known: Option<First<'a>>, first: First<'a>) -> First<'a>
 
 /// The first claim of a source.
 pub(crate) fn first_in<'a>(firsts: &Firsts<'a>, source: &LentPlace<'a>) -> Option<First<'a>>
-    ensures { result ≡ get by_place firsts.entry.now source.entry.now }
+    ensures { result ≡ get by_source firsts.entry.now (source_key source.entry.now) }
 {
-    firsts.get(source).copied()
+    firsts.get(&key_of(source)).copied()
 }
 
 fn take_first<'a>(firsts: &mut Firsts<'a>, claim: &VisibleClaim<'a>) -> Result<(), AllocError>
@@ -67,7 +85,7 @@ fn take_first<'a>(firsts: &mut Firsts<'a>, claim: &VisibleClaim<'a>) -> Result<(
         of: claim.of,
         at: claim.at,
     };
-    firsts.insert(claim.source, lesser_first(known, next))?;
+    firsts.insert(key_of(&claim.source), lesser_first(known, next))?;
     Ok(())
 }
 
@@ -100,22 +118,32 @@ fn lesser_place<'a>(known: Option<LentPlace<'a>>, place: LentPlace<'a>) -> LentP
     }
 }
 
-/// The place of the first claim of a source and number.
-pub(crate) fn place_in<'a>(places: &OutputPlaces<'a>, key: &OutputKey<'a>) -> Option<LentPlace<'a>>
-    ensures { result ≡ get by_output places.entry.now key.entry.now }
+fn output_key_of<'a>(source: &LentPlace<'a>, output: u32) -> OutputKey<'a>
+    ensures { result ≡ output_key source.now output }
 {
-    places.get(key).copied()
+    OutputKey {
+        source: key_of(source),
+        output,
+    }
+}
+
+/// The place of the first claim of a source and number.
+pub(crate) fn place_in<'a>(
+    places: &OutputPlaces<'a>,
+    source: &LentPlace<'a>,
+    output: u32,
+) -> Option<LentPlace<'a>>
+    ensures { result ≡ get by_output places.entry.now (output_key source.entry.now output) }
+{
+    places.get(&output_key_of(source, output)).copied()
 }
 
 fn take_place<'a>(places: &mut OutputPlaces<'a>, claim: &VisibleClaim<'a>) -> Result<(), AllocError>
     ensures { (before : List PlacedClaim) → ArePlaces places.old before → OnOk result (ArePlaces places.new (before ++ claim_at claim.now ∷ [])) }
 {
-    let key = OutputKey {
-        source: claim.source,
-        output: claim.output,
-    };
-    let place = lesser_place(place_in(places, &key), claim.at);
-    places.insert(key, place)?;
+    let known = place_in(places, &claim.source, claim.output);
+    let key = output_key_of(&claim.source, claim.output);
+    places.insert(key, lesser_place(known, claim.at))?;
     Ok(())
 }
 

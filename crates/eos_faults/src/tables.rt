@@ -8,7 +8,7 @@ ghost use Rattle.eos_faults.specs.steps.Plain.{claim_at, place_at};
 ghost use Rattle.eos_faults.specs.steps.Tables.{AreTables, first_seen, goes_past as is_past, place_before, seen_disagrees, seen_top};
 
 use crate::commits::{Offset, Offsets, Reached, offset_in, pass_key, reach_in};
-use crate::firsts::{First, Firsts, OutputKey, OutputPlaces, first_in, place_in};
+use crate::firsts::{First, Firsts, OutputPlaces, first_in, place_in};
 use crate::lent::{LentPlace, VisibleClaim};
 use eos_base::Sorted;
 use eos_commits::TopicSet;
@@ -96,11 +96,8 @@ fn is_before(place: Option<LentPlace<'_>>, at: &LentPlace<'_>) -> bool
 pub(crate) fn is_repeated<'a>(tables: &Tables<'a>, claim: &VisibleClaim<'a>) -> bool
     ensures { (a : Application) → AreTables a tables.now → result ≡ is_repeated_after (first_at a.claims (place_at claim.now.source) claim.now.output) (place_at claim.now.at) }
 {
-    let key = OutputKey {
-        source: claim.source,
-        output: claim.output,
-    };
-    is_before(place_in(&tables.places, &key), &claim.at)
+    let first = place_in(&tables.places, &claim.source, claim.output);
+    is_before(first, &claim.at)
 }
 
 fn count_or_one(first: Option<First<'_>>) -> u32
@@ -121,11 +118,7 @@ fn top_of<'a>(tables: &Tables<'a>, input: &LentPlace<'a>) -> u32
 fn is_there<'a>(tables: &Tables<'a>, input: &LentPlace<'a>, output: u32) -> bool
     ensures { (a : Application) → AreTables a tables.now → result ≡ is_there_in a.claims (place_at input.now) output }
 {
-    let key = OutputKey {
-        source: *input,
-        output,
-    };
-    place_in(&tables.places, &key).is_some()
+    place_in(&tables.places, input, output).is_some()
 }
 
 /// The first output that an input lacks, up to what its first claim says.

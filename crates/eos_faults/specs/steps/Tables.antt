@@ -2,6 +2,7 @@
 use Rattle.std.specs.Prelude.{◌≡◌, ℕ, ℤ, pos, Bool, false, not, ◌&&◌, ◌==◌, Option, Some, None, option_map, List, fold, if◌then◌else◌, int_lt, IsPermutation}
 use Rattle.std.specs.BTreeMap.{BTreeMap, get}
 use Rattle.std.specs.Ordering.{nat_cmp, int_cmp, on, then_cmp, ordering_then, is_eq, is_lt, is_gt}
+use Rattle.std.specs.Cmp.Lexicographic.{slice_cmp}
 use Rattle.std.specs.declared.cmp.Ordering.{Ordering}
 use Rattle.eos_base.specs.declared.partition_name.PartitionName.{PartitionName}
 use Rattle.eos_base.specs.PartitionNames.{name_cmp}
@@ -14,6 +15,7 @@ use Rattle.eos_faults.specs.declared.lent.LentName.{LentName}
 use Rattle.eos_faults.specs.declared.lent.LentPlace.{LentPlace}
 use Rattle.eos_faults.specs.declared.firsts.First.{First}
 use Rattle.eos_faults.specs.declared.firsts.OutputKey.{OutputKey}
+use Rattle.eos_faults.specs.declared.firsts.SourceKey.{SourceKey}
 use Rattle.eos_faults.specs.declared.commits.Offset.{Offset}
 use Rattle.eos_faults.specs.declared.commits.PassKey.{PassKey}
 use Rattle.eos_faults.specs.declared.tables.Tables.{Tables}
@@ -41,18 +43,28 @@ abbrev pub lesser_seen : Option FirstSeen → FirstSeen → FirstSeen
 lesser_seen None g = g
 lesser_seen (Some f) g = if is_gt (seen_cmp f g) then g else f
 
-abbrev pub AreFirsts : BTreeMap LentPlace First → List PlacedClaim → Type 0
-AreFirsts firsts cs = (k : LentPlace) → option_map first_seen (get by_place firsts k) ≡ option_map seen (first_of cs (place_at k))
+-- a source by its offset first
+abbrev pub source_key : LentPlace → SourceKey
+source_key p = record { offset = p.offset; partition = p.partition.partition; topic = p.partition.topic }
+
+abbrev pub by_source : SourceKey → SourceKey → Ordering
+by_source j k = ordering_then (nat_cmp j.offset k.offset) (ordering_then (int_cmp j.partition k.partition) (slice_cmp nat_cmp j.topic.now k.topic.now))
+
+abbrev pub AreFirsts : BTreeMap SourceKey First → List PlacedClaim → Type 0
+AreFirsts firsts cs = (k : LentPlace) → option_map first_seen (get by_source firsts (source_key k)) ≡ option_map seen (first_of cs (place_at k))
+
+abbrev pub output_key : LentPlace → ℕ → OutputKey
+output_key p n = record { source = source_key p; output = n }
 
 abbrev pub by_output : OutputKey → OutputKey → Ordering
-by_output j k = ordering_then (by_place j.source k.source) (nat_cmp j.output k.output)
+by_output j k = ordering_then (by_source j.source k.source) (nat_cmp j.output k.output)
 
 abbrev pub lesser_place : Option Place → Place → Place
 lesser_place None q = q
 lesser_place (Some p) q = if is_gt (place_cmp p q) then q else p
 
 abbrev pub ArePlaces : BTreeMap OutputKey LentPlace → List PlacedClaim → Type 0
-ArePlaces places cs = (k : OutputKey) → option_map place_at (get by_output places k) ≡ option_map (λ c. c.at) (first_at cs (place_at k.source) k.output)
+ArePlaces places cs = (k : LentPlace) (n : ℕ) → option_map place_at (get by_output places (output_key k n)) ≡ option_map (λ c. c.at) (first_at cs (place_at k) n)
 
 -- ---- the commits
 

@@ -9,5 +9,5 @@ use Rattle.eos_faults.proofs.tables.is_there.Goals as goal
 pub returns : goal.returns
 returns c = λ a are.
     let input = c.args.input.now in
-    let there = ap is_some (ap (option_map place_at) c.place_in.ensures ∙ are.places (record { source = input; output = c.args.output })) in
+    let there = ap is_some (ap (option_map place_at) c.place_in.ensures ∙ are.places input c.args.output) in
     c.is_some.ensures ∙ (sym (some_mapped place_at c.place_in.result) ∙ (there ∙ some_mapped (λ (d : PlacedClaim). d.at) (first_at a.claims (place_at input) c.args.output)))
