@@ -262,6 +262,46 @@ def finer_steps():
     expect(min(done.values()) > 20, f"finer steps: {done}")
 
 
+def turns(history):
+    """Of the messages of a session's transaction, as they come for the first time: the numbers of the lines by which one comes before an earlier
+    one of its link, and how many data messages come before an earlier one of another link. A session sends the first one again that wasn't
+    accepted, so that what comes by that is neither."""
+    waiting, place, resumed, wrong, crossed = {}, {}, {}, [], 0
+    for it in history:
+        name, session, message = it.get("event"), it.get("session"), it.get("message")
+        if name in ("produce", "commit", "end") and it["reply"] == "done":
+            place[it["value"]] = own = session, resumed.get(session, 0)
+            waiting.setdefault(own, {})[it["value"]] = (name, it.get("partition"))
+        elif name == "resume" and it["reply"] == "done":
+            resumed[session] = resumed.get(session, 0) + 1
+        elif name == "deliver" or it.get("note") == "lost":
+            own = waiting.get(place.get(message), {})
+            link = own.pop(message, None)
+            before = {other for earlier, other in own.items() if earlier < message}
+            wrong += [it["number"]] if link in before else []
+            crossed += name == "deliver" and link is not None and link[0] != "end" and any(other != link for other in before)
+    return wrong, crossed
+
+
+def links():
+    """With a queue for each sender and receiver what a session sends comes in order on each of its links, and not on all; else on all. No fault
+    stands, and an index says so."""
+    found = {"--links": 0, "--chain": 0}
+    for seed in range(1, 21):
+        for flag in found:
+            folder, history = f"{scratch}/links-{seed}{flag}", f"{scratch}/links-{seed}{flag}.jsonl"
+            answer = run("simulate", "--seed", seed, "--events", 600, flag, *(["--chain"] if seed % 2 and flag == "--links" else []), "--history", history, folder)
+            said = run("check", "--quiet", folder)
+            wrong, crossed = turns(lines_of(history))
+            expect(answer[0] == 0 and said[1].startswith("yes ") and not wrong, f"{flag}, seed {seed}: {answer} {said}, out of order {wrong[:3]}")
+            found[flag] += crossed
+            shutil.rmtree(folder)
+    expect(found["--links"] > 100 and found["--chain"] == 0, f"what overtakes another link: {found}")
+    status, out, _ = run("simulate", "--count", 1, "--seed", 7, "--events", 200, "--links", f"{scratch}/links")
+    expect(status == 0 and json.loads(out)["words"] == ["--seed", "7", "--events", "200", "--links"], f"the index of links: {out}")
+    expect(run("simulate", "--seed", 7, "--events", 200, "--links", f"{scratch}/same")[0] == 0 and same_folder(f"{scratch}/same", f"{scratch}/links/000001"), "--links again")
+
+
 def schedule(*lines):
     """A file of these lines, which are objects or texts."""
     path = f"{scratch}/schedule"
@@ -517,7 +557,7 @@ def refused():
     for what in (f"{scratch}/no-such-file", scratch):
         status, out, told = run("simulate", "--schedule", what, folder)
         expect((status, out) == (2, "") and told.startswith(f"eoscheck: cannot read {what}\n"), f"{what}: {told}")
-    for words in (["--seed", 1], ["--events", 1], ["--switch", "no-fence"], ["--inputs", 3], ["--chain"], ["--lose", 1], ["--mishap", "lost-output"]):
+    for words in (["--seed", 1], ["--events", 1], ["--switch", "no-fence"], ["--inputs", 3], ["--chain"], ["--lose", 1], ["--links"], ["--mishap", "lost-output"]):
         status, out, told = run("simulate", "--schedule", schedule(HEAD), *words, folder)
         expect((status, out) == (2, "") and told.startswith("error: "), f"--schedule with {words}: {told}")
     expect(not os.path.exists(folder), "a refused schedule leaves a folder")
@@ -593,6 +633,7 @@ def main():
     totals()
     time_outs()
     finer_steps()
+    links()
     worked()
     refused()
     files()

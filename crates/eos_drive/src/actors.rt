@@ -49,7 +49,7 @@ impl Actors {
             rates: settings.rates,
             applications,
             plan: Plan::new(alloc, *config, settings.mishaps)?,
-            network: Network::new(),
+            network: Network::new(alloc, settings.links),
             instances,
         })
     }
@@ -69,8 +69,8 @@ impl Actors {
             Happening::Feed => self.feed(cluster, driver, rest),
             Happening::Work { aborts } => self.work(cluster, driver, rest, aborts),
             Happening::WorkAbandoned => self.work_abandoned(cluster, driver, rest),
-            Happening::Carry => self.carry(cluster, driver),
-            Happening::Lose => self.lose(driver),
+            Happening::Carry => self.carry(cluster, driver, rest / 2),
+            Happening::Lose => self.lose(driver, rest / 2),
             Happening::Repeat => self.repeat(cluster, driver, rest),
             Happening::Abandon => self.abandon(rest),
             Happening::ChangeMembers => self.change_members(cluster, driver, rest),
@@ -165,9 +165,15 @@ impl Actors {
         }
         match self.instances[number].turn(&self.plan, choice) {
             Turn::Ask(event) => {
+                let is_end = matches!(event, Event::End { .. });
                 let reply = driver.ask(cluster, event)?;
                 self.plan.read_outputs(cluster)?;
-                self.hear(number, choice, reply)?;
+                if reply == Reply::Busy {
+                    self.network.may_have_more();
+                }
+                if let Some((session, message)) = self.hear(number, choice, reply)? {
+                    self.network.queued(cluster, session, message, is_end)?;
+                }
                 self.tell_mishaps(driver)
             }
             Turn::Again(message) => self.deliver(cluster, driver, message),
@@ -175,18 +181,21 @@ impl Actors {
         }
     }
 
-    /// An instance hears what was answered to the event that it asked for.
-    fn hear(&mut self, number: usize, choice: Choice, reply: Reply) -> Result<(), AllocError> {
-        if reply == Reply::Busy {
-            self.network.may_have_more();
+    /// An instance hears what was answered to the event that it asked for: its session, and the message that this has queued.
+    fn hear(
+        &mut self,
+        number: usize,
+        choice: Choice,
+        reply: Reply,
+    ) -> Result<Option<(usize, u64)>, AllocError> {
+        if number >= self.instances.len() {
+            return Ok(None);
         }
-        if number < self.instances.len() {
-            let queued = self.instances[number].hear(&mut self.plan, choice, reply)?;
-            if let Some(message) = queued {
-                self.network.queued(message);
-            }
+        let session = self.instances[number].session();
+        match self.instances[number].hear(&mut self.plan, choice, reply)? {
+            Some(message) => Ok(Some((session, message))),
+            None => Ok(None),
         }
-        Ok(())
     }
 
     /// Tells which mistakes a transaction has made just now.
@@ -226,28 +235,30 @@ impl Actors {
         }
     }
 
-    /// The next message arrives, in order.
+    /// The next message arrives, in the order of its link.
     pub(crate) fn carry(
         &mut self,
         cluster: &mut Cluster,
         driver: &mut Driver,
+        choice: u64,
     ) -> Result<(), AllocError>
         requires { driver.old.course ≡ cluster.old }
         ensures { HasAsked cluster.old driver.old cluster.new driver.new }
     {
-        if let Some(message) = self.network.next() {
+        if let Some(next) = self.network.next(cluster, choice)? {
+            let message = next.message;
             let reply = driver.ask(cluster, Event::Deliver { message })?;
-            self.network.passed(is_message(reply));
+            self.network.passed(next, is_message(reply))?;
             self.hear_arrival(message, reply);
         }
         Ok(())
     }
 
     /// The next message is lost.
-    fn lose(&mut self, driver: &mut Driver) -> Result<(), AllocError>
+    fn lose(&mut self, driver: &mut Driver, choice: u64) -> Result<(), AllocError>
         ensures { driver.new ≡ driver.old }
     {
-        match self.network.lose() {
+        match self.network.lose(choice)? {
             Some(message) => driver.note(Note::Lost(message)),
             None => Ok(()),
         }

@@ -47,7 +47,7 @@ impl Actors {
         ensures { HasAsked cluster.old driver.old cluster.new driver.new }
     {
         if choice % 2 == 0 {
-            return self.write_marker(cluster, driver);
+            return self.write_marker(cluster, driver, choice / 2);
         }
         let application = remainder(choice / 2, self.applications);
         driver.ask(cluster, Event::Complete { application })?;
@@ -55,14 +55,20 @@ impl Actors {
     }
 
     /// The next message arrives, if it is an end marker.
-    fn write_marker(&mut self, cluster: &mut Cluster, driver: &mut Driver) -> Result<(), AllocError>
+    fn write_marker(
+        &mut self,
+        cluster: &mut Cluster,
+        driver: &mut Driver,
+        choice: u64,
+    ) -> Result<(), AllocError>
         requires { driver.old.course ≡ cluster.old }
         ensures { HasAsked cluster.old driver.old cluster.new driver.new }
     {
-        if let Some(message) = self.network.next() {
+        if let Some(next) = self.network.next(cluster, choice)? {
+            let message = next.message;
             let reply = driver.ask(cluster, Event::WriteMarker { message })?;
             if is_message(reply) {
-                self.network.passed(true);
+                self.network.passed(next, true)?;
             }
         }
         Ok(())

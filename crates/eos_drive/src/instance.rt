@@ -86,6 +86,11 @@ impl Instance {
         self.application
     }
 
+    /// Its session, or the last one that it had.
+    pub(crate) fn session(&self) -> usize {
+        self.session
+    }
+
     /// Whether it has no session, or none that could go on.
     pub(crate) fn is_gone(&self) -> bool {
         self.stage == Stage::Away || self.stage == Stage::Spent

@@ -12,6 +12,8 @@ use eos_cluster::Switches;
 pub struct Settings<'a> {
     /// How often what is said.
     pub rates: Rates,
+    /// Whether each sender and receiver have a queue of messages of their own; else there is one queue.
+    pub links: bool,
     /// Whether the cluster's switches are set inside the script, or right after its last word.
     pub turning: Option<Turning>,
     /// The mistakes that the applications make.
@@ -30,15 +32,17 @@ pub struct Turning {
 }
 
 impl<'a> Settings<'a> {
-    /// Today's rates, no switch and no mishap.
+    /// Today's rates, one queue, no switch and no mishap.
     pub fn today() -> Settings<'a>
         ensures rates { result.rates ≡ today }
+        ensures links { result.links ≡ false }
         ensures turning { result.turning ≡ None }
         ensures mishaps { result.mishaps.now ≡ [] }
         ensures stops { result.stops ≡ false }
     {
         Settings {
             rates: Rates::TODAY,
+            links: false,
             turning: None,
             mishaps: &[],
             stops: false,

@@ -47,10 +47,10 @@ fn carry_all(
     ensures { HasAsked cluster.old driver.old cluster.new driver.new }
 {
     for _ in 0..MAX_EVENTS {
-        if actors.network.next().is_none() {
+        if actors.network.is_empty() {
             break;
         }
-        actors.carry(cluster, driver)?;
+        actors.carry(cluster, driver, 0)?;
     }
     Ok(())
 }

@@ -43,6 +43,8 @@ pub struct Course {
     pub(crate) seed: u64,
     pub(crate) words: u64,
     rates: Rates,
+    /// Whether each sender and receiver have a queue of messages of their own.
+    links: bool,
     pub(crate) switches: Switches,
     /// After how many words the switches are on, if not after the script.
     switch_at: Option<u64>,
@@ -59,6 +61,7 @@ impl Course {
         ensures sizes { IfOk result (λ course. course.config ≡ config_said words.now.sizes) }
         ensures script { IfOk result (λ course. (course.seed ≡ words.now.seed) × (course.words ≡ words.now.events)) }
         ensures rates { IfOk result (λ course. course.rates ≡ rates_said words.now.rates) }
+        ensures links { IfOk result (λ course. course.links ≡ words.now.links) }
         ensures switches { IfOk result (λ course. course.switches ≡ switches_said words.now.switches.items) }
         ensures turning { IfOk result (λ course. course.switch_at ≡ words.now.switch_at) }
         ensures shown { IfOk result (λ course. course.is_shown ≡ (not words.now.no_tail && not words.now.stop_anywhere)) }
@@ -87,6 +90,7 @@ impl Course {
             seed: words.seed,
             words: words.events,
             rates,
+            links: words.links,
             switches,
             switch_at: words.switch_at,
             is_shown: !words.no_tail && !words.stop_anywhere,
@@ -110,6 +114,7 @@ impl Course {
             seed: 0,
             words: 0,
             rates: Rates::TODAY,
+            links: false,
             switches,
             switch_at: Some(0),
             is_shown: false,
@@ -134,12 +139,14 @@ impl Course {
     pub(crate) fn settings(&self) -> Settings<'_>
         ensures honest { any_on self.now.switches ≡ false → result.turning ≡ None }
         ensures rates { result.rates ≡ self.now.rates }
+        ensures links { result.links ≡ self.now.links }
         ensures mishaps { result.mishaps.now ≡ self.now.mishaps.items }
         ensures stops { result.stops ≡ self.now.stops }
         ensures turning { any_on self.now.switches ≡ true → result.turning ≡ option_map (λ at. record { after = at; switches = self.now.switches }) self.now.switch_at }
     {
         Settings {
             rates: self.rates,
+            links: self.links,
             turning: match self.switch_at {
                 Some(after) if self.switches.any_on() => Some(Turning {
                     after,

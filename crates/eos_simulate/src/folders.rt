@@ -89,6 +89,7 @@ fn own_words<'a>(
 ) -> Result<Simulation<'a>, AllocError>
     ensures seed { IfOk result (λ single. (single.seed ≡ own.entry.seed) × (single.events ≡ words.now.events)) }
     ensures sizes { IfOk result (λ single. (single.sizes ≡ own.entry.drawn.sizes) × (single.rates ≡ own.entry.drawn.rates)) }
+    ensures links { IfOk result (λ single. single.links ≡ words.now.links) }
     ensures turning { IfOk result (λ single. (single.switch_at ≡ own.entry.drawn.switch_at) × (single.no_tail ≡ own.entry.drawn.no_tail)) }
 {
     let mut switches = copies(alloc, words.switches.as_slice())?;
@@ -103,6 +104,7 @@ fn own_words<'a>(
         events: words.events,
         sizes: own.drawn.sizes,
         rates: own.drawn.rates,
+        links: words.links,
         switches,
         switch_at: own.drawn.switch_at,
         no_tail: own.drawn.no_tail,

@@ -43,6 +43,7 @@ fn recipe(alloc: Global, words: &Simulation<'_>) -> Result<Vec<Value>, AllocErro
     push_number(alloc, &mut said, "--events", Some(words.events))?;
     push_sizes(alloc, &mut said, words.sizes)?;
     push_rates(alloc, &mut said, words.rates)?;
+    push_flag(alloc, &mut said, "--links", words.links)?;
     push_each(alloc, &mut said, "--switch", words.switches.as_slice())?;
     push_number(alloc, &mut said, "--switch-at", words.switch_at)?;
     push_flag(alloc, &mut said, "--no-tail", words.no_tail)?;

@@ -113,6 +113,8 @@ pub struct Simulation<'a> {
     pub sizes: Sizes,
     /// How often what happens.
     pub rates: Thousandths,
+    /// Whether each sender and receiver have a queue of messages of their own.
+    pub links: bool,
     /// The names of the rules that it breaks.
     pub switches: Vec<&'a str>,
     /// After how many words it breaks them, if not after the script.

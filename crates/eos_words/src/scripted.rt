@@ -34,6 +34,7 @@ fn read_simulation<'a>(
         events: script.events,
         sizes: read_sizes(inner),
         rates: read_rates(inner),
+        links: inner.get_flag("links"),
         switches: read_all(alloc, inner, "switch")?,
         switch_at: inner.get_one::<u64>("switch-at"),
         no_tail: inner.get_flag("no-tail"),

@@ -35,6 +35,7 @@ const SCRIPTED: &[&str] = &[
     "time-out",
     "add-partition",
     "late-complete",
+    "links",
     "switch-at",
     "no-tail",
     "mishap",
@@ -50,7 +51,7 @@ const SINGLE: &[&str] = &["history", "labels", "schedule"];
 /// What else is made of a script, and how it is told.
 const MADE: &[&str] = &["stop-anywhere", "collect", "count", "progress", "folder"];
 
-static SIMULATE_ARGUMENTS: [Argument; 33] = [
+static SIMULATE_ARGUMENTS: [Argument; 34] = [
     Argument {
         name: "seed",
         help: "What the script is drawn from, 0 to 2^64 - 1",
@@ -164,6 +165,12 @@ static SIMULATE_ARGUMENTS: [Argument; 33] = [
         help: "Words, of 1000, by which a transaction completes late",
         presence: Presence::Optional,
         form: Form::Valued("RATE", ValueParser::Unsigned(0, 1000)),
+    },
+    Argument {
+        name: "links",
+        help: "Each sender and receiver have a queue of their own",
+        presence: Presence::Optional,
+        form: Form::Flag,
     },
     Argument {
         name: "switch",
@@ -282,9 +289,11 @@ add-partition a partition is listed before a record comes there, or without
 one. With late-complete end markers come by themselves, and the coordinator
 writes that a transaction is complete later, or restarts before.
 
-With --chain there is a second group, of one application: it reads what stands
-committed in `out`, and writes `fin`, which has as many partitions. The manifest
-is then one of version 2, of two groups.
+With --links each sender and receiver have a queue of messages of their own, as
+connections do: a word draws of which one the first arrives or is lost.
+
+With --chain a second group, of one application, reads what stands committed in
+`out`, and writes `fin`, of as many partitions. The manifest is of version 2.
 
 With --switch the cluster breaks a rule, as a bad broker or coordinator would:
 in a few events after the script, and from a word on that --switch-at gives;
