@@ -6,3 +6,4 @@ pub mod Backward
 pub mod Settled
 pub mod Ranges
 mod Refused
+mod LastEntries

@@ -11,7 +11,10 @@ use Rattle.eos_machine.specs.declared.event.Reply.TheVariants.{Done, Fenced, Out
 use Rattle.eos_machine.specs.LogIndexes.{offsets_index, written_index, is_odd_output}
 use Rattle.eos_machine.specs.Switching.{none, only}
 use Rattle.eos_machine.specs.World.{World}
-use Rattle.eos_machine.specs.Machine.{step}
+use Rattle.eos_machine.specs.Machine.{reread, step}
+use Rattle.eos_machine.specs.Tests.{has, waits_for}
+use Rattle.eos_machine.specs.declared.state.Coordinator.{Coordinator}
+use Rattle.eos_batch.specs.declared.marker.Kind.{Kind}
 
 abbrev pub is_marker : Option Message → Bool
 is_marker None = false
@@ -34,22 +37,31 @@ kept_by marker Unknown = none
 kept_by marker OutOfMemory = none
 kept_by marker Full = none
 
--- and those by which it is written otherwise than it asks: a record goes to a partition that its transaction doesn't list; an end marker isn't
--- written, or with the epoch of the data, or of the other kind
-abbrev pub altered : Switches → Config → Option Message → Switches → Switches
-altered u c None kept = kept
-altered u c (Some (messages.Output a e p s x v)) kept = record kept { hide_listing = u.hide_listing && is_odd_output c (written_index c a p) }
-altered u c (Some (messages.Offset a e g q v)) kept = kept
-altered u c (Some (messages.End a e k)) kept = kept
-altered u c (Some (messages.Marker a m k p)) kept = record kept {
+-- the last record of an end marker's application decides its transaction, and doesn't list its partition
+abbrev pub is_unlisted : Coordinator → ℕ → Kind → ℕ → Bool
+is_unlisted s m k p = waits_for s.status s.epoch m k && not (has p s.partitions)
+
+-- those by which an end marker isn't written, or is with the epoch of the data, or of the other kind, or in a partition that its transaction
+-- doesn't list
+abbrev pub altered_marker : Switches → Config → Coordinator → ℕ → Kind → ℕ → Switches → Switches
+altered_marker u c s m k p kept = record kept {
   no_bump = kept.no_bump || (u.no_bump && not u.lose_marker);
   lose_marker = u.lose_marker;
   swap_marker = u.swap_marker && (is_odd_output c p && not u.lose_marker);
+  hide_listing = is_unlisted s m k p && not u.lose_marker;
 }
+
+-- and those by which any message is written otherwise than it asks: a record goes to a partition that its transaction doesn't list
+abbrev pub altered : Switches → Config → World → Option Message → Switches → Switches
+altered u c w None kept = kept
+altered u c w (Some (messages.Output a e p s x v)) kept = record kept { hide_listing = u.hide_listing && is_odd_output c (written_index c a p) }
+altered u c w (Some (messages.Offset a e g q v)) kept = kept
+altered u c w (Some (messages.End a e k)) kept = kept
+altered u c w (Some (messages.Marker a m k p)) kept = altered_marker u c (reread c w a) m k p kept
 
 -- where the message of this number is taken
 abbrev pub broken : Switches → Config → World → ℕ → Switches
-broken u c w n = altered u c (slice_get w.messages n) (kept_by (is_marker (slice_get w.messages n)) (step c w (events.Deliver n)).1)
+broken u c w n = altered u c w (slice_get w.messages n) (kept_by (is_marker (slice_get w.messages n)) (step c w (events.Deliver n)).1)
 
 -- in which log a message is to stand, by its place; an end at none, for which 0 is said
 abbrev pub log_of : Config → Option Message → ℕ

@@ -8,7 +8,9 @@ ghost use Rattle.eos_machine.specs.Formed.{Names};
 ghost use Rattle.eos_machine.specs.Deliveries.{deliver, deliver_output, deliver_offset, deliver_end, deliver_marker};
 ghost use Rattle.eos_machine.specs.Switching.{none};
 ghost use Rattle.eos_broker.specs.Named.{IsNamed};
-ghost use Rattle.eos_cluster.specs.Breaches.{is_marker, kept_by, altered, log_of};
+ghost use Rattle.eos_machine.specs.Machine.{reread};
+ghost use Rattle.eos_machine.specs.World.{state_of};
+ghost use Rattle.eos_cluster.specs.Breaches.{is_marker, kept_by, is_unlisted, altered_marker, altered, log_of};
 ghost use Rattle.eos_cluster.specs.steps.Refusing.{IsRefusal, refusal_of};
 ghost use Rattle.eos_cluster.specs.steps.Taken.{IsData};
 
@@ -17,10 +19,12 @@ use crate::deliver_end::end_refusal;
 use crate::deliver_marker::{EndMarker, is_marker_fenced};
 use crate::deliver_offset::judge_offset;
 use crate::deliver_output::judge_output;
+use crate::restarted::last_said;
 use eos_batch::Kind;
-use eos_broker::Store;
+use eos_broker::answers::waits_for;
 use eos_broker::log_indexes::{OFFSETS_INDEX, is_odd_output, written_index};
-use eos_machine::{Config, Message, Reply, Switch, Switches};
+use eos_broker::{Store, copies};
+use eos_machine::{Config, Entry, Message, Reply, Switch, Switches};
 
 // ---- how a cluster that keeps its rules refuses a message
 
@@ -180,12 +184,51 @@ fn kept_if(marker: bool, refusal: Option<Reply>) -> Switches
     }
 }
 
-/// With those by which these switches change how a message is written.
-fn altered(config: Config, switches: Switches, message: &Message, kept: Switches) -> Switches
-    requires config { IsConfig config }
-    requires named { Names config message.now }
-    ensures { result ≡ altered switches config (Some message.now) kept }
+/// Whether a record decides the transaction of an end marker, and doesn't list its partition.
+fn omits(entry: &Entry, marker: EndMarker) -> bool
+    ensures { result ≡ is_unlisted (state_of entry.now) marker.epoch marker.kind marker.place }
 {
+    waits_for(entry.status, entry.epoch, marker.epoch, marker.kind)
+        && !copies::has(marker.place, entry.partitions.as_slice())
+}
+
+/// The same of the last record of its application.
+fn is_unlisted(store: &Store, marker: EndMarker) -> bool
+    ensures { result ≡ is_unlisted (reread store.now.config store.now.world marker.application) marker.epoch marker.kind marker.place }
+{
+    match last_said(store, marker.application) {
+        None => false,
+        Some(entry) => omits(entry, marker),
+    }
+}
+
+/// The rules by which an end marker is written otherwise than it asks, beside one that this broker keeps.
+fn altered_marker(store: &Store, switches: Switches, marker: EndMarker, kept: Switches) -> Switches
+    ensures { result ≡ altered_marker switches store.now.config (reread store.now.config store.now.world marker.application) marker.epoch marker.kind marker.place kept }
+{
+    if switches.lose_marker {
+        return Switches {
+            lose_marker: true,
+            swap_marker: false,
+            hide_listing: false,
+            ..kept
+        };
+    }
+    Switches {
+        no_bump: kept.no_bump || switches.no_bump,
+        lose_marker: false,
+        swap_marker: switches.swap_marker && is_odd_output(store.config(), marker.place),
+        hide_listing: is_unlisted(store, marker),
+        ..kept
+    }
+}
+
+/// With those by which these switches change how a message is written.
+fn altered(store: &Store, switches: Switches, message: &Message, kept: Switches) -> Switches
+    requires { Names store.now.config message.now }
+    ensures { result ≡ altered switches store.now.config store.now.world (Some message.now) kept }
+{
+    let config = store.config();
     match message {
         Message::Output {
             application,
@@ -197,13 +240,20 @@ fn altered(config: Config, switches: Switches, message: &Message, kept: Switches
             ..kept
         },
         Message::Offset { .. } | Message::End { .. } => kept,
-        Message::Marker { place, .. } => Switches {
-            no_bump: kept.no_bump || (switches.no_bump && !switches.lose_marker),
-            lose_marker: switches.lose_marker,
-            swap_marker: switches.swap_marker
-                && (is_odd_output(config, *place) && !switches.lose_marker),
-            ..kept
-        },
+        Message::Marker {
+            application,
+            epoch,
+            kind,
+            place,
+        } => {
+            let marker = EndMarker {
+                application: *application,
+                epoch: *epoch,
+                kind: *kind,
+                place: *place,
+            };
+            altered_marker(store, switches, marker, kept)
+        }
     }
 }
 
@@ -214,15 +264,14 @@ pub(crate) fn broken(
     refusal: Option<Reply>,
     number: u64,
 ) -> Switches
-    requires config { IsConfig store.now.config }
-    requires named { IsNamed store.now.config (slice_get store.now.world.messages number) }
+    requires { IsNamed store.now.config (slice_get store.now.world.messages number) }
     ensures { (r : Reply) → IsRefusal refusal r
-        → result ≡ altered switches store.now.config (slice_get store.now.world.messages number) (kept_by (is_marker (slice_get store.now.world.messages number)) r) }
+        → result ≡ altered switches store.now.config store.now.world (slice_get store.now.world.messages number) (kept_by (is_marker (slice_get store.now.world.messages number)) r) }
 {
     match store.message(number) {
         Some(message) => {
             let kept = kept_if(is_marker(message), refusal);
-            altered(store.config(), switches, message, kept)
+            altered(store, switches, message, kept)
         }
         None => kept_if(false, refusal),
     }

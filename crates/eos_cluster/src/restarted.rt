@@ -1,9 +1,10 @@
 //! The transaction coordinator restarts: it reads its states from the log again.
 
 ghost use Rattle.std.specs.Prelude.{◌≡◌, ◌++◌, ◌≤◌, length, map, OnOk, OnErr, IfOk};
+ghost use Rattle.std.specs.Option.{option_map};
 ghost use Rattle.eos_machine.specs.declared.state.Coordinator.{Coordinator};
 ghost use Rattle.eos_machine.specs.World.{fresh, with_messages};
-ghost use Rattle.eos_machine.specs.Logs.{entries_of, last_state};
+ghost use Rattle.eos_machine.specs.Logs.{entry_in, entries_of, last_state};
 ghost use Rattle.eos_machine.specs.Machine.{reread, due_again, restarted};
 ghost use Rattle.eos_broker.specs.Held.{becomes};
 ghost use Rattle.eos_cluster.specs.steps.Restarting.{said_by, due_message};
@@ -14,26 +15,44 @@ use eos_broker::{Store, copies, fresh, state_of};
 use eos_machine::{Coordinator, Entry, Item, Message, Status};
 use std::alloc::{AllocError, Global};
 
+/// What an item says of an application's transaction.
+fn entry_of(item: &Item, application: usize) -> Option<&Entry>
+    ensures { option_map (λ x. x.now) result ≡ entry_in application item.now }
+{
+    match item {
+        Item::State {
+            application: other,
+            entry,
+            ..
+        } => {
+            if *other == application {
+                return Some(entry);
+            }
+            None
+        }
+        Item::Fed { .. } | Item::Output { .. } | Item::Offset { .. } | Item::Marker { .. } => None,
+    }
+}
+
 /// The last record of an application in a log.
 fn last_entry(log: &[Item], application: usize) -> Option<&Entry>
     ensures { (s : Coordinator) → last_state s (entries_of application log.now) ≡ said_by result s }
 {
-    let mut last = None;
     for i in (0..log.len()).rev() {
-        match &log[i] {
-            Item::State {
-                application: other,
-                entry,
-                ..
-            } => {
-                if *other == application && last.is_none() {
-                    last = Some(entry);
-                }
-            }
-            Item::Fed { .. } | Item::Output { .. } | Item::Offset { .. } | Item::Marker { .. } => {}
+        match entry_of(&log[i], application) {
+            Some(entry) => return Some(entry),
+            None => {}
         }
     }
-    last
+    None
+}
+
+/// The last record of an application in the transaction log.
+pub(crate) fn last_said(store: &Store, application: usize) -> Option<&Entry>
+    ensures { reread store.now.config store.now.world application ≡ said_by result fresh }
+{
+    let log = store.log(txn_index(store.config(), application));
+    last_entry(log, application)
 }
 
 /// The state that a record leaves, if there is one.
@@ -70,8 +89,7 @@ fn push_due(
 fn reread(store: &Store, application: usize) -> Result<Coordinator, AllocError>
     ensures { IfOk result (λ s. s ≡ reread store.now.config store.now.world application) }
 {
-    let place = txn_index(store.config(), application);
-    state_said(store.alloc(), last_entry(store.log(place), application))
+    state_said(store.alloc(), last_said(store, application))
 }
 
 fn queue_due(store: &mut Store, due: &[EndMarker])

@@ -1,15 +1,16 @@
-use Rattle.std.proofs.Common.{arith}
+use Rattle.std.proofs.Common.{arith, rules, ap, ◌∙◌, sym}
 use Rattle.std.proofs.lemmas.Grind.{common_steps}
-use Rattle.eos_machine.specs.World.{state_of}
-use Rattle.eos_cluster.proofs.restarted.last_entry.Goals.{else-other-application-via-then-other-application+else-is_none, else-other-application-via-else-other-application}
+use Rattle.std.specs.Option.{option_map}
+use Rattle.eos_cluster.proofs.LastEntries.{none_here, some_here}
 use Rattle.eos_cluster.proofs.restarted.last_entry.Goals as goal
 
-pub loop-i-preserved-then-is_none : goal.loop-i-preserved-then-is_none
-loop-i-preserved-then-is_none c = λ s. grind (arith, common_steps, c.loop-i.invariant (state_of c.in-State.entry))
+pub returns-in-Some : goal.returns-in-Some
+returns-in-Some c = some_here c.args.application c.loop-i.i c.args.log.now c.index-log-i.result c.in-Some.entry.now (search rules) (search rules) c.index-log-i.is
+    (ap (option_map (λ x. x.now)) (sym c.in-Some.is) ∙ c.entry_of.ensures) c.loop-i.invariant
 
-pub loop-i-preserved-else-other-application : goal.loop-i-preserved-else-other-application
-loop-i-preserved-else-other-application c = λ s.
-    elim c.else-other-application.branch [
-      | else-other-application-via-then-other-application+else-is_none w ↦ grind (arith, common_steps, c.loop-i.invariant (state_of c.in-State.entry))
-      | else-other-application-via-else-other-application w ↦ grind (arith, common_steps, c.loop-i.invariant s)
-    ]
+pub loop-i-preserved : goal.loop-i-preserved
+loop-i-preserved c = none_here c.args.application c.loop-i.i c.args.log.now c.index-log-i.result (search rules) (search rules) c.index-log-i.is
+    (ap (option_map (λ x. x.now)) (sym c.in-None.is) ∙ c.entry_of.ensures) c.loop-i.invariant
+
+pub returns : goal.returns
+returns c = λ s. grind (arith, common_steps, c.loop-i.invariant s)
