@@ -24,7 +24,7 @@ use std::alloc::{AllocError, Global};
 use std::thread::{Threads, join};
 
 /// So many times as long as a record of another log keeps the lineage, one of the transaction log keeps its reading, about.
-const LONGER: u64 = 2;
+const LONGER: u64 = 4;
 
 /// Logs of an evidence with this manifest, and at most how many threads judge them.
 #[derive(Clone, Copy)]
