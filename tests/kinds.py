@@ -22,7 +22,8 @@ import tempfile
 import jsonschema
 
 import reference
-from plain_logs import crc32c
+from mutants import Reader, Refused
+from plain_logs import ABORT, COMMIT, crc32c, read_batch
 
 HERE = os.path.dirname(os.path.abspath(__file__))
 MANIFEST = "evidence.json"
@@ -103,6 +104,55 @@ def path_of(part, base):
     return f"{part}/{base:020}.log"
 
 
+def batches_of(text):
+    """The batches of a file, each with its bytes, up to what is none."""
+    at = 0
+    while at < len(text):
+        try:
+            batch, size = read_batch(text, at)
+        except Refused:
+            return
+        yield batch, text[at : at + size]
+        at += size
+
+
+def record_texts(batch, text):
+    """The bytes of each record of a batch."""
+    fields = Reader(text[61:])
+    for _ in range(batch.count):
+        before = fields.at
+        fields.take(fields.varint())
+        yield text[61 + before : 61 + fields.at]
+
+
+def cleaned(files):
+    """A partition's files as Kafka's log cleaner leaves them at its first pass: of each key the last record that isn't aborted and not of
+    the last file, end markers, and the last batch of each producer id, if with nothing in it."""
+    log = [(path, *it) for path, text in files.items() for it in batches_of(text)]
+    latest, ended, sent = {}, {}, set()
+    kept = {path: [] for path in files}
+    is_active, last = True, log[-1][0] if log else None
+    for place in reversed(range(len(log))):
+        path, batch, text = log[place]
+        is_active = is_active and path == last
+        is_data = batch.word in ("txn", "plain")
+        left, was_sent = text, batch.producer in sent
+        if is_data:
+            sent.add(batch.producer)
+        if is_data and not is_active:
+            records = [] if batch.word == "txn" and ended.get(batch.producer) == ABORT else list(zip(batch.records, record_texts(batch, text)))
+            mine = {record.key: it for it, (record, _) in enumerate(records) if record.key is not None}
+            stay = [it for n, (record, it) in enumerate(records) if record.key is not None and record.key not in latest and mine[record.key] == n]
+            latest.update(mine)
+            body = text[21:57] + len(stay).to_bytes(4, "big") + b"".join(stay)
+            left = text[:8] + (9 + len(body)).to_bytes(4, "big") + text[12:17] + crc32c(body).to_bytes(4, "big") + body
+            left = left if stay or (batch.producer >= 0 and not was_sent) else b""
+        elif batch.word in (COMMIT, ABORT):
+            ended[batch.producer] = batch.word
+        kept[path].insert(0, left)
+    return {path: b"".join(it) for path, it in kept.items()}
+
+
 def done_again(files, word):
     """The files of a folder after a mistake."""
     name, place = word.split("@")
@@ -120,6 +170,8 @@ def done_again(files, word):
         files[path_of(part, given[1])] = files.pop(at)
     elif name == "two-replicas":
         files[path_of(part, 0)] = b"".join(files[it] for it in own)
+    elif name == "compacted":
+        files.update(cleaned({it: files[it] for it in own}))
     elif name == "wrong-end":
         ends[part] = given[0]
     elif name == "forgotten":
@@ -148,7 +200,7 @@ def word_of(chance, files, name):
     at = chance.randrange(len(text))
     turned = f":{base}:{at}:{text[at] ^ 1 << chance.randrange(8)}"
     free = next(it for it in range(chance.randrange(1, 1000), 2000) if it not in bases)
-    behind = {"two-replicas": "", "forgotten": "", "doubled": ":20", "wrong-end": f":{max(0, ends[part] + chance.choice([-1, 1]))}", "renamed-segment": f":{base}:{free}", "turned-byte": turned, "rewritten-byte": turned}
+    behind = {"two-replicas": "", "compacted": "", "forgotten": "", "doubled": ":20", "wrong-end": f":{max(0, ends[part] + chance.choice([-1, 1]))}", "renamed-segment": f":{base}:{free}", "turned-byte": turned, "rewritten-byte": turned}
     return f"{name}@{part}" + behind.get(name, f":{base}")
 
 
@@ -190,8 +242,8 @@ def refused():
     """Words that are no mistakes, and mistakes with nothing in which they can be made."""
     form, none, twice = "--collect: no mistake, or not NAME@TOPIC-N[:..]", "nothing is there in which it can be made", "--collect: two partitions, or two files of one, have the same name"
     folder, labels = (os.path.join(scratch, it) for it in ("never", "never.labels"))
-    rows = [(it, form) for it in ("lost-segment", "lost@out-0:0", "lost-segment@out-0", "lost-segment@out:0", "lost-segment@out-0:00", "lost-segment@out-0:0:1", "forgotten@out-0:1", "two-replicas@out-0:0", "wrong-end@out-0:-1", "wrong-end@out-0:9223372036854775808", "doubled@out-0:2147483648", "turned-byte@out-0:0:0:256", "forgotten@out-00")]
-    rows += [(it, f"{it.split('@')[0]}: {none}") for it in ("lost-segment@out-2:0", "lost-segment@out-0:1", "cut-segment@fin-0:0", "renamed-segment@out-0:0:0", "two-replicas@in-0", "wrong-end@out-0:10", "forgotten@out-2", "doubled@out-2:3", "turned-byte@out-0:0:0:0", "rewritten-byte@out-0:0:100000:1")]
+    rows = [(it, form) for it in ("lost-segment", "lost@out-0:0", "lost-segment@out-0", "lost-segment@out:0", "lost-segment@out-0:00", "lost-segment@out-0:0:1", "forgotten@out-0:1", "two-replicas@out-0:0", "compacted@out-0:0", "wrong-end@out-0:-1", "wrong-end@out-0:9223372036854775808", "doubled@out-0:2147483648", "turned-byte@out-0:0:0:256", "forgotten@out-00")]
+    rows += [(it, f"{it.split('@')[0]}: {none}") for it in ("lost-segment@out-2:0", "lost-segment@out-0:1", "cut-segment@fin-0:0", "renamed-segment@out-0:0:0", "two-replicas@in-0", "compacted@in-0", "wrong-end@out-0:10", "forgotten@out-2", "doubled@out-2:3", "turned-byte@out-0:0:0:0", "rewritten-byte@out-0:0:100000:1")]
     rows += [("doubled@out-0:1", twice), ("renamed-segment@__transaction_state-0:0:16", twice)]
     for word, why in rows:
         found = run("simulate", "--seed", 7, "--events", 60, "--collect", word, "--labels", labels, folder)

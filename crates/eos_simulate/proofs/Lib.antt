@@ -28,6 +28,7 @@ mod ScheduleTexts
 mod HistoryLines
 mod ShrunkParts
 mod ShrunkFiles
+mod CleanedLogs
 pub mod Brought
 pub mod CollectedRuns
 mod EachSchedule

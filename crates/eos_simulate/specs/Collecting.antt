@@ -1,11 +1,9 @@
 -- What somebody brings who copied the log directories of a cluster and read the ends of its partitions, and made mistakes: files and ends,
 -- as a function of those that were there. Source: Kafka's documentation, "Log" (a partition's folder is TOPIC-N, a segment's file has the
 -- name of its first offset) and "Record Batch" (its checksum); what goes wrong is what people who copied log directories have told.
-use Rattle.std.specs.Prelude.{◌≡◌, ℕ, ℤ, pos, ◌+◌, ◌-◌, List, [], ◌∷◌, ◌++◌, Bool, true, false, not, ◌&&◌, ◌||◌, ◌==◌, if◌then◌else◌, nat_lt, length, take, drop, slice_index, flat_map, bytes_eq, Option, None, Some, option_map, Ok}
+use Rattle.std.specs.Prelude.{◌≡◌, ℕ, ℤ, pos, List, [], ◌∷◌, Bool, true, false, not, ◌&&◌, ◌||◌, ◌==◌, if◌then◌else◌, nat_lt, length, slice_index, flat_map, Option, None, Some, Ok}
 use Rattle.std.specs.List.{list_any}
 use Rattle.std.specs.Ordering.{int_eq}
-use Rattle.eos_wire.specs.Crc.{crc32c_of}
-use Rattle.eos_wire.specs.Numbers.{u32_text}
 use Rattle.eos_evidence.specs.declared.ends.End.{End}
 use Rattle.eos_evidence.specs.declared.segment.Segment.{Segment}
 use Rattle.eos_evidence.specs.SpecFields.{SpecFields, accepted}
@@ -15,26 +13,9 @@ use Rattle.eos_simulate.specs.declared.copied.Copied.{Copied}
 use Rattle.eos_simulate.specs.declared.mistake.Mistake.{Mistake}
 use Rattle.eos_simulate.specs.declared.mistake.Turned.{Turned}
 use Rattle.eos_simulate.specs.declared.mistake.What.{What}
-use Rattle.eos_simulate.specs.declared.mistake.What.TheVariants.{LostSegment, CutSegment, RenamedSegment, TurnedByte, RewrittenByte, TwoReplicas, WrongEnd, Forgotten, Doubled}
-
--- a file, or the end, of the partition in which the mistake is made
-abbrev pub is_file_of : Mistake → Segment → Bool
-is_file_of m s = bytes_eq s.topic m.topic.now && int_eq s.partition m.partition
-
-abbrev pub is_end_of : Mistake → End → Bool
-is_end_of m e = bytes_eq e.topic m.topic.now && int_eq e.partition m.partition
-
--- ---- bytes
-
-abbrev pub without_last : List ℕ → List ℕ
-without_last bytes = take (length bytes - 1) bytes
-
-abbrev pub with_byte : ℕ → ℕ → List ℕ → List ℕ
-with_byte at value bytes = if nat_lt at (length bytes) then take at bytes ++ value ∷ drop (at + 1) bytes else bytes
-
--- the checksum of a batch stands at its byte 17, and is that of the bytes from 21 on; here those to the end of the file
-abbrev pub sealed : List ℕ → List ℕ
-sealed bytes = if nat_lt (length bytes) 21 then bytes else take 17 bytes ++ (u32_text (crc32c_of (drop 21 bytes)) ++ drop 21 bytes)
+use Rattle.eos_simulate.specs.declared.mistake.What.TheVariants.{LostSegment, CutSegment, RenamedSegment, TurnedByte, RewrittenByte, TwoReplicas, Compacted, WrongEnd, Forgotten, Doubled}
+use Rattle.eos_simulate.specs.CopiedFiles.{is_file_of, is_end_of, without_last, with_byte, sealed}
+use Rattle.eos_simulate.specs.Cleaning.{cleaned_files}
 
 -- what a replica has in its file that never began another one
 abbrev pub all_bytes : Mistake → List Segment → List ℕ
@@ -50,6 +31,7 @@ own_file m files s (RenamedSegment base name) = (if int_eq s.base base then reco
 own_file m files s (TurnedByte t) = (if int_eq s.base t.base then record s { bytes = with_byte t.at t.value s.bytes } else s) ∷ []
 own_file m files s (RewrittenByte t) = (if int_eq s.base t.base then record s { bytes = sealed (with_byte t.at t.value s.bytes) } else s) ∷ []
 own_file m files s TwoReplicas = (if int_eq s.base (pos 0) then record s { bytes = all_bytes m files } else s) ∷ []
+own_file m files s Compacted = s ∷ []
 own_file m files s (WrongEnd end) = s ∷ []
 own_file m files s Forgotten = []
 own_file m files s (Doubled number) = s ∷ record s { partition = number } ∷ []
@@ -62,6 +44,7 @@ own_end e (RenamedSegment base name) = e ∷ []
 own_end e (TurnedByte t) = e ∷ []
 own_end e (RewrittenByte t) = e ∷ []
 own_end e TwoReplicas = e ∷ []
+own_end e Compacted = e ∷ []
 own_end e (WrongEnd end) = record e { end = end } ∷ []
 own_end e Forgotten = []
 own_end e (Doubled number) = e ∷ record e { partition = number } ∷ []
@@ -72,8 +55,21 @@ file_after m files s = if is_file_of m s then own_file m files s m.what else s �
 abbrev pub end_after : Mistake → End → List End
 end_after m e = if is_end_of m e then own_end e m.what else e ∷ []
 
+-- the log cleaner goes over a log as a whole, and any other mistake from file to file
+abbrev pub files_after : Mistake → List Segment → What → List Segment
+files_after m files (LostSegment base) = flat_map (file_after m files) files
+files_after m files (CutSegment base) = flat_map (file_after m files) files
+files_after m files (RenamedSegment base name) = flat_map (file_after m files) files
+files_after m files (TurnedByte t) = flat_map (file_after m files) files
+files_after m files (RewrittenByte t) = flat_map (file_after m files) files
+files_after m files TwoReplicas = flat_map (file_after m files) files
+files_after m files Compacted = cleaned_files m files
+files_after m files (WrongEnd end) = flat_map (file_after m files) files
+files_after m files Forgotten = flat_map (file_after m files) files
+files_after m files (Doubled number) = flat_map (file_after m files) files
+
 abbrev pub after_mistake : Mistake → Copied → Copied
-after_mistake m c = record { ends = flat_map (end_after m) c.ends; files = flat_map (file_after m c.files) c.files }
+after_mistake m c = record { ends = flat_map (end_after m) c.ends; files = files_after m c.files m.what }
 
 -- ---- whether a mistake can be made
 
@@ -89,6 +85,7 @@ meets_file s (RenamedSegment base name) = int_eq s.base base && not (int_eq name
 meets_file s (TurnedByte t) = turns t s
 meets_file s (RewrittenByte t) = turns t s
 meets_file s TwoReplicas = not (int_eq s.base (pos 0))
+meets_file s Compacted = not (int_eq s.base (pos 0))
 meets_file s (WrongEnd end) = false
 meets_file s Forgotten = false
 meets_file s (Doubled number) = false
@@ -101,6 +98,7 @@ meets_end e (RenamedSegment base name) = false
 meets_end e (TurnedByte t) = false
 meets_end e (RewrittenByte t) = false
 meets_end e TwoReplicas = false
+meets_end e Compacted = false
 meets_end e (WrongEnd end) = not (int_eq e.end end)
 meets_end e Forgotten = true
 meets_end e (Doubled number) = true

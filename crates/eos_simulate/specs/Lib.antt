@@ -7,6 +7,8 @@ pub mod HistoryTexts
 pub mod Labels
 pub mod LabelTexts
 pub mod MistakeTexts
+pub mod CopiedFiles
+pub mod Cleaning
 pub mod Collecting
 pub mod CollectedRuns
 pub mod Folders

@@ -6,7 +6,7 @@ use Rattle.serde_json.specs.Written.{compact_text}
 use Rattle.eos_simulate.specs.declared.mistake.Mistake.{Mistake}
 use Rattle.eos_simulate.specs.declared.mistake.Turned.{Turned}
 use Rattle.eos_simulate.specs.declared.mistake.What.{What}
-use Rattle.eos_simulate.specs.declared.mistake.What.TheVariants.{LostSegment, CutSegment, RenamedSegment, TurnedByte, RewrittenByte, TwoReplicas, WrongEnd, Forgotten, Doubled}
+use Rattle.eos_simulate.specs.declared.mistake.What.TheVariants.{LostSegment, CutSegment, RenamedSegment, TurnedByte, RewrittenByte, TwoReplicas, Compacted, WrongEnd, Forgotten, Doubled}
 
 unfoldable pub what_name : What → List ℕ
 what_name (LostSegment base) = codes "lost-segment"
@@ -15,6 +15,7 @@ what_name (RenamedSegment base name) = codes "renamed-segment"
 what_name (TurnedByte turned) = codes "turned-byte"
 what_name (RewrittenByte turned) = codes "rewritten-byte"
 what_name TwoReplicas = codes "two-replicas"
+what_name Compacted = codes "compacted"
 what_name (WrongEnd end) = codes "wrong-end"
 what_name Forgotten = codes "forgotten"
 what_name (Doubled number) = codes "doubled"
@@ -30,6 +31,7 @@ places_text (RenamedSegment base name) = (codes ":" ++ signed_decimal base) ++ (
 places_text (TurnedByte turned) = turned_text turned
 places_text (RewrittenByte turned) = turned_text turned
 places_text TwoReplicas = []
+places_text Compacted = []
 places_text (WrongEnd end) = codes ":" ++ signed_decimal end
 places_text Forgotten = []
 places_text (Doubled number) = codes ":" ++ signed_decimal number
@@ -45,6 +47,7 @@ what_codes (RenamedSegment base name) = codes "[\"1.2\"]"
 what_codes (TurnedByte turned) = codes "[\"1.1\",\"1.2\"]"
 what_codes (RewrittenByte turned) = codes "[\"1.1\",\"1.2\",\"1.3\",\"1.4\",\"1.5\",\"1.6\",\"1.7\",\"1.8\",\"1.9\",\"1.11\",\"2.1\",\"2.2\",\"2.3\",\"2.4\",\"2.5\",\"3.1\",\"3.2\",\"3.3\",\"3.4\",\"3.5\",\"3.6\",\"3.7\",\"4.1\",\"4.2\",\"4.3\",\"4.4\",\"5.5\",\"5.6\",\"5.7\",\"5.8\",\"5.9\",\"5.10\",\"5.11\",\"5.12\"]"
 what_codes TwoReplicas = codes "[\"1.2\"]"
+what_codes Compacted = codes "[\"1.1\",\"1.2\"]"
 what_codes (WrongEnd end) = codes "[\"1.10\",\"1.11\",\"2.5\",\"3.2\",\"3.5\",\"3.7\",\"5.6\",\"5.7\",\"5.11\"]"
 what_codes Forgotten = codes "[\"3.2\",\"3.5\",\"3.6\",\"5.6\",\"5.7\",\"5.11\"]"
 what_codes (Doubled number) = codes "[\"2.3\",\"3.1\",\"3.4\",\"3.5\",\"4.3\",\"5.10\"]"

@@ -1,7 +1,7 @@
 //! The bytes of a file that was copied with a mistake.
 
 ghost use Rattle.std.specs.Prelude.{◌≡◌, IfOk};
-ghost use Rattle.eos_simulate.specs.Collecting.{without_last, with_byte, sealed};
+ghost use Rattle.eos_simulate.specs.CopiedFiles.{without_last, with_byte, sealed};
 
 use crate::mistake::Turned;
 use bytes::Bytes;

@@ -2,9 +2,11 @@
 
 ghost use Rattle.std.specs.Prelude.{◌≡◌, ◌++◌, ◌∷◌, [], flat_map, IfOk, OnOk};
 ghost use Rattle.eos_evidence.specs.Evidence.{segments_of};
-ghost use Rattle.eos_simulate.specs.Collecting.{is_file_of, is_end_of, own_file, own_end, file_after, end_after, after_mistake, turns, meets_file, meets_end, meets_a_file, meets_an_end, can_make, copied_from, all_bytes};
+ghost use Rattle.eos_simulate.specs.CopiedFiles.{is_file_of, is_end_of};
+ghost use Rattle.eos_simulate.specs.Collecting.{own_file, own_end, file_after, end_after, files_after, after_mistake, turns, meets_file, meets_end, meets_a_file, meets_an_end, can_make, copied_from, all_bytes};
 
 use crate::bytes_changed::{sealed, with_byte, without_last};
+use crate::cleaning::cleaned_files;
 use crate::mistake::{Mistake, Turned, What};
 use bytes::Bytes;
 use eos_base::Listed;
@@ -68,7 +70,7 @@ fn push_files(files: &mut Listed<Segment>, segments: &[Segment]) -> Result<(), A
 
 // ---- where it is made
 
-fn is_file_of(mistake: &Mistake<'_>, file: &Segment) -> bool
+pub(crate) fn is_file_of(mistake: &Mistake<'_>, file: &Segment) -> bool
     ensures { result ≡ is_file_of mistake.now file.now }
 {
     file.topic.as_slice() == mistake.topic.as_bytes() && file.partition == mistake.partition
@@ -98,6 +100,7 @@ fn meets_file(file: &Segment, what: What) -> bool
         What::TurnedByte(turned) => turns(turned, file),
         What::RewrittenByte(turned) => turns(turned, file),
         What::TwoReplicas => file.base != 0,
+        What::Compacted => file.base != 0,
         What::WrongEnd(_) | What::Forgotten | What::Doubled(_) => false,
     }
 }
@@ -113,7 +116,8 @@ fn meets_end(end: &End, what: What) -> bool
         | What::RenamedSegment(_, _)
         | What::TurnedByte(_)
         | What::RewrittenByte(_)
-        | What::TwoReplicas => false,
+        | What::TwoReplicas
+        | What::Compacted => false,
     }
 }
 
@@ -159,7 +163,8 @@ fn push_own_end(all: &mut Listed<End>, end: &End, what: What) -> Result<(), Allo
         | What::RenamedSegment(_, _)
         | What::TurnedByte(_)
         | What::RewrittenByte(_)
-        | What::TwoReplicas => all.push(end.clone()?),
+        | What::TwoReplicas
+        | What::Compacted => all.push(end.clone()?),
         What::WrongEnd(other) => all.push(End {
             topic: end.topic.clone()?,
             partition: end.partition,
@@ -180,6 +185,19 @@ fn push_own_end(all: &mut Listed<End>, end: &End, what: What) -> Result<(), Allo
 // ---- the files
 
 fn files_after(
+    alloc: Global,
+    mistake: &Mistake<'_>,
+    files: &[Segment],
+) -> Result<Listed<Segment>, AllocError>
+    ensures { IfOk result (λ all. all ≡ files_after mistake.now files.now mistake.now.what) }
+{
+    match mistake.what {
+        What::Compacted => cleaned_files(alloc, mistake, files),
+        _ => each_after(alloc, mistake, files),
+    }
+}
+
+fn each_after(
     alloc: Global,
     mistake: &Mistake<'_>,
     files: &[Segment],
@@ -250,7 +268,7 @@ fn push_twice(all: &mut Listed<Segment>, file: &Segment, number: i32) -> Result<
     Ok(())
 }
 
-fn with_bytes(file: &Segment, bytes: Bytes) -> Result<Segment, AllocError>
+pub(crate) fn with_bytes(file: &Segment, bytes: Bytes) -> Result<Segment, AllocError>
     ensures { IfOk result (λ changed. changed ≡ record file.now { bytes = bytes }) }
 {
     Ok(Segment {

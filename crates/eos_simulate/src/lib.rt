@@ -6,6 +6,7 @@
 #![tactic(auto)]
 
 mod bytes_changed;
+mod cleaning;
 mod collecting;
 mod copied;
 mod course;

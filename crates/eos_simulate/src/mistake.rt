@@ -32,6 +32,8 @@ pub enum What {
     RewrittenByte(Turned),
     /// The first file is that of another replica, which has all records in it.
     TwoReplicas,
+    /// Kafka's log cleaner has been over the log.
+    Compacted,
     /// The end is another.
     WrongEnd(i64),
     /// The partition is forgotten.
@@ -61,6 +63,7 @@ impl What {
             What::TurnedByte(_) => "turned-byte",
             What::RewrittenByte(_) => "rewritten-byte",
             What::TwoReplicas => "two-replicas",
+            What::Compacted => "compacted",
             What::WrongEnd(_) => "wrong-end",
             What::Forgotten => "forgotten",
             What::Doubled(_) => "doubled",
@@ -71,6 +74,7 @@ impl What {
     fn from_words(name: &str, places: &str) -> Option<What> {
         match name {
             "two-replicas" => Some(What::TwoReplicas),
+            "compacted" => Some(What::Compacted),
             "forgotten" => Some(What::Forgotten),
             "doubled" => Some(What::Doubled(i32_in(places)?)),
             "wrong-end" => Some(What::WrongEnd(i64_in(places)?)),
@@ -151,6 +155,7 @@ fn push_behind(out: &mut String, what: What) -> Result<(), AllocError>
         What::TurnedByte(turned) => push_turned(out, turned),
         What::RewrittenByte(turned) => push_turned(out, turned),
         What::TwoReplicas => Ok(()),
+        What::Compacted => Ok(()),
         What::WrongEnd(end) => push_offset(out, end),
         What::Forgotten => Ok(()),
         What::Doubled(number) => push_number(out, number),

@@ -345,6 +345,7 @@ a byte of it. A mistake that finds nothing to be made in is refused:
   cut-segment@TOPIC-N:BASE             its last byte isn't
   renamed-segment@TOPIC-N:BASE:NAME    it gets another name
   two-replicas@TOPIC-N                 the first file is that of another replica
+  compacted@TOPIC-N                    Kafka's log cleaner has been over the log
   wrong-end@TOPIC-N:END                the end is read too high or too low
   forgotten@TOPIC-N                    the partition is left out
   doubled@TOPIC-N:NUMBER               it is there under another number too
