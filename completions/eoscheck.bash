@@ -176,6 +176,9 @@ _eoscheck() {
     --late-complete)
       mapfile -t COMPREPLY < <(compgen -W '' -- "$word")
       return ;;
+    --elect)
+      mapfile -t COMPREPLY < <(compgen -W '' -- "$word")
+      return ;;
     --switch)
       mapfile -t COMPREPLY < <(compgen -W 'keep-duplicates no-fence no-bump lose-marker swap-marker hide-listing ignore-generation' -- "$word")
       return ;;
@@ -205,7 +208,7 @@ _eoscheck() {
       return ;;
     esac
     case $word in
-    -*) mapfile -t COMPREPLY < <(compgen -W '--seed --events --applications --inputs --outputs --transaction-logs --segment-records --batch-records --chain --lose --repeat --abandon --members --restart-broker --restart-coordinator --abort --time-out --add-partition --late-complete --links --switch --switch-at --no-tail --mishap --stop-anywhere --collect --history --labels --schedule --count --swarm --every --progress -h --help' -- "$word") ;;
+    -*) mapfile -t COMPREPLY < <(compgen -W '--seed --events --applications --inputs --outputs --transaction-logs --segment-records --batch-records --chain --lose --repeat --abandon --members --restart-broker --restart-coordinator --abort --time-out --add-partition --late-complete --elect --links --switch --switch-at --no-tail --mishap --stop-anywhere --collect --history --labels --schedule --count --swarm --every --progress -h --help' -- "$word") ;;
     *) mapfile -t COMPREPLY < <(compgen -d -- "$word") ;;
     esac ;;
   shrink)

@@ -70,6 +70,7 @@ complete -c eoscheck -n '__fish_seen_subcommand_from simulate' -l abort -x -d 'W
 complete -c eoscheck -n '__fish_seen_subcommand_from simulate' -l time-out -x -d 'Words, of 1000, by which a transaction times out'
 complete -c eoscheck -n '__fish_seen_subcommand_from simulate' -l add-partition -x -d 'Words, of 1000, by which one is added to a transaction'
 complete -c eoscheck -n '__fish_seen_subcommand_from simulate' -l late-complete -x -d 'Words, of 1000, by which a transaction completes late'
+complete -c eoscheck -n '__fish_seen_subcommand_from simulate' -l elect -x -d 'Words, of 1000, by which a partition gets a new leader'
 complete -c eoscheck -n '__fish_seen_subcommand_from simulate' -l links -d 'Each sender and receiver have a queue of their own'
 complete -c eoscheck -n '__fish_seen_subcommand_from simulate' -l switch -x -a 'keep-duplicates no-fence no-bump lose-marker swap-marker hide-listing ignore-generation' -d 'A rule that the cluster breaks; may be repeated'
 complete -c eoscheck -n '__fish_seen_subcommand_from simulate' -l switch-at -x -d 'Breaks them after so many words, not after the script'

@@ -24,7 +24,7 @@ SHOWN = {"lose-marker": 1, "no-bump": 1, "keep-duplicates": None, "no-fence": No
 UNFIT = ["swap-marker", "hide-listing", "ignore-generation"]
 BESIDE = [
     "--seed 1", "--events 1", "--applications 2", "--inputs 2", "--outputs 2", "--transaction-logs 2", "--segment-records 2", "--batch-records 2",
-    "--chain", *[f"--{it} 1" for it in [*RATES, "time-out", "add-partition", "late-complete"]], "--links", "--switch-at 1", "--no-tail", "--mishap lost-output", "--stop-anywhere", "--collect forgotten@out-0",
+    "--chain", *[f"--{it} 1" for it in [*RATES, "time-out", "add-partition", "late-complete", "elect"]], "--links", "--switch-at 1", "--no-tail", "--mishap lost-output", "--stop-anywhere", "--collect forgotten@out-0",
     "--history h", "--labels l", "--schedule s", "--count 2", "--swarm", "--progress", "FOLDER",
 ]
 

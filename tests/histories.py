@@ -26,7 +26,7 @@ import tempfile
 
 SWITCHES = ["keep-duplicates", "no-fence", "no-bump", "lose-marker", "swap-marker", "hide-listing", "ignore-generation"]
 MISHAPS = ["lost-output", "repeated-output", "wrong-count", "wrong-number", "foreign-source", "no-headers", "offset-deleted"]
-RATES = ["lose", "repeat", "abandon", "members", "restart-broker", "restart-coordinator", "time-out", "add-partition", "late-complete"]
+RATES = ["lose", "repeat", "abandon", "members", "restart-broker", "restart-coordinator", "time-out", "add-partition", "late-complete", "elect"]
 SIZES = {"applications": (1, 8), "inputs": (1, 16), "outputs": (1, 16), "transaction-logs": (1, 4), "segment-records": (1, 40), "batch-records": (1, 8)}
 ARGUMENTS = {
     "feed": {"source"},
@@ -44,6 +44,7 @@ ARGUMENTS = {
     "add-partition": {"session", "partition"},
     "write-marker": {"message"},
     "complete": {"application"},
+    "elect": {"topic", "partition", "kept"},
 }
 REPLIES = {"done", "fenced", "out-of-order", "duplicate-kept", "wrong-state", "busy", "stale-generation", "epochs-spent", "unknown"}
 HEAD = {
@@ -105,6 +106,8 @@ def settings_of(seed):
         words += ["--switch-at", chance.randrange(0, events + 1)]
     if chance.random() < 0.2:
         words += ["--mishap", chance.choice(MISHAPS)]
+    if chance.random() < 0.2:
+        words += ["--mishap", "unclean-election"]
     if chance.random() < 0.4:
         words += ["--chain"]
         if chance.random() < 0.3:

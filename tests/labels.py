@@ -7,7 +7,7 @@ Of COUNT folders (300) with random sizes, rates, switches and mishaps: the folde
 the labels of its history; each label names a line of the history of its kind, each note has a label, and each line fits
 docs/labels.schema.json. Without a switch no rule was broken. Then the score. Of a folder: `check` says no where a label has codes, and yes
 elsewhere. Of a fault: a label has its code. Of a label: a fault with one of its codes is found. What is missed is explained: labels of
-HARMLESS may do no harm, nor does a zombie's record before the abort of its own transaction, a mishap's transaction may come to nothing where a rule is broken too, and a fault is hidden behind those of a
+HARMLESS may do no harm, nor a loss of records of which the second program finds none, nor does a zombie's record before the abort of its own transaction, a mishap's transaction may come to nothing where a rule is broken too, and a fault is hidden behind those of a
 phase before, which `check --all` then lists alone: it stands by the second program, tests/reference.py, which looks at every phase of these
 folders, and of every tenth. Faults of AT_LABELS stand at records that a label names. Then `--count` makes the folders that single calls
 make. With REFUSE.SO (tests/refuse.c, built) the allocations of a run are refused. Prints what is wrong and the score, and as its last line
@@ -81,6 +81,10 @@ def words_of(seed):
         words += ["--mishap", chance.choice(MISHAPS)]
     if chance.random() < 0.3:
         words += ["--chain"]
+    if chance.random() < 0.3:
+        words += ["--elect", chance.randrange(0, 60)]
+    if chance.random() < 0.2:
+        words += ["--mishap", "unclean-election"]
     return words, switches
 
 
@@ -103,12 +107,15 @@ def wrong_labels(labels, history, switches):
         if it["label"] == "broken-rule":
             if it["rule"] not in switches or (deed.get("event"), deed.get("message"), deed.get("reply"), deed.get("value")) != ("deliver", it["message"], "done", it["offset"]):
                 return f"{it} of {deed}"
+        elif it["label"] == "unclean-election":
+            if (deed.get("event"), deed.get("reply"), f"{deed.get('topic')}-{deed.get('partition')}", deed.get("kept")) != ("elect", "done", it["partition"], it["offset"]):
+                return f"{it} of {deed}"
         elif it["label"] == "stopped":
             if it["number"] != max(deeds) or it is not labels[-1]:
                 return f"{it} isn't the last"
         elif deed.get("note") != it["label"] or any(deed[name] != it[name] for name in ("message", "mishap") if name in it):
             return f"{it} of {deed}"
-    noted = [it["number"] for it in labels if it["label"] not in ("broken-rule", "stopped")]
+    noted = [it["number"] for it in labels if it["label"] not in ("broken-rule", "unclean-election", "stopped")]
     if noted != [number for number, it in deeds.items() if "note" in it]:
         return "notes without a label"
     if [it["number"] for it in labels] != sorted(it["number"] for it in labels):
@@ -171,9 +178,10 @@ class Score:
         self.named = sum(it["code"] in codes for it in faults)
         if self.named < len(faults):
             return self.fail(f"no label has the code of {[it['code'] for it in faults if it['code'] not in codes]}")
+        is_lossy = any(it["label"] == "unclean-election" for it in labels)
         places = {(it.get("partition"), it.get("offset")) for it in labels}
         for it in faults:
-            if it["code"] in AT_LABELS and (f"{it['topic']}-{it['partition']}", it["offset"]) not in places:
+            if it["code"] in AT_LABELS and not is_lossy and (f"{it['topic']}-{it['partition']}", it["offset"]) not in places:
                 return self.fail(f"no label names the record of {it}")
         found = {it["code"] for it in faults}
         first = min(map(phase, found), default=9)
@@ -186,7 +194,11 @@ class Score:
         for it in lost:
             if seen & {code for code in it["codes"] if phase(code) > first}:
                 self.missed.append("behind a phase before")
-            elif it.get("rule") == HARMLESS or is_given_up(folder, it):
+            elif it.get("rule") == HARMLESS or (it["label"] == "unclean-election" and not seen & set(it["codes"])):
+                self.missed.append("harmless")
+            elif is_lossy and it["label"] in ("mishap", "broken-rule"):
+                self.missed.append("what went wrong was lost")
+            elif is_given_up(folder, it):
                 self.missed.append("harmless")
             elif it["label"] == "mishap" and is_broken:
                 self.missed.append("a mishap beside a broken rule")

@@ -78,7 +78,7 @@ MISHAPS = {
 }
 # A mistake of the second group.
 CHAINED = {"aborted-input": "5.6 NoSuchInput"}
-RATES = ["lose", "repeat", "abandon", "members", "restart-broker", "restart-coordinator", "abort", "time-out", "add-partition", "late-complete"]
+RATES = ["lose", "repeat", "abandon", "members", "restart-broker", "restart-coordinator", "abort", "time-out", "add-partition", "late-complete", "elect"]
 # The ranges of the sizes, and what they are where nothing is said.
 SIZES = {
     "applications": (1, 8, 2),

@@ -22,8 +22,10 @@ from labels import SWITCHES, expect, faults_in, lines_of, run, same_folder
 
 MISHAPS = [*labels.MISHAPS, "aborted-input"]
 RATES = [*labels.RATES, "abort"]
+# The rates, each with its draw.
+DRAWN = {**{name: at for at, name in enumerate(RATES, 7)}, "elect": 22}
 # What today's rates are, in 32nds of a thousandth.
-TODAY = {"lose": 500, "repeat": 2000, "abandon": 250, "members": 125, "restart-broker": 250, "restart-coordinator": 375, "abort": 1000}
+TODAY = {"lose": 500, "repeat": 2000, "abandon": 250, "members": 125, "restart-broker": 250, "restart-coordinator": 375, "abort": 1000, "elect": 0}
 # Draw, least value, how many values in one half of the folders, and in the other half.
 SIZES = {
     "applications": (0, 1, 3, 7),
@@ -53,7 +55,7 @@ def draws(seed):
     increment = second | 1
     state = ((first + increment) * factor + increment) % WIDE
     words = []
-    for _ in range(22):
+    for _ in range(24):
         words.append(output(state))
         state = (state * factor + 43) % WIDE
     return words
@@ -71,8 +73,8 @@ def recipe(seed, events, given):
             least = 1 + events // 8192
         sizes[name] = said[name] if name in said else least + word[at] // 2 % (many if word[at] % 2 else few)
     chain = given.get("chain", False) or word[6] % 3 == 0
-    rates = {name: said.get(name) for name in RATES}
-    drawn = {name: word[at] // 4 % 101 if rates[name] is None and word[at] % 4 == 0 else rates[name] for at, name in enumerate(RATES, 7)}
+    rates = {name: said.get(name) for name in DRAWN}
+    drawn = {name: word[at] // 4 % 101 if rates[name] is None and word[at] % 4 == 0 else rates[name] for name, at in DRAWN.items()}
     if sum(TODAY[name] if value is None else 32 * value for name, value in drawn.items()) <= 32000:
         rates = drawn
     if not switches and word[14] % 2:
@@ -89,6 +91,8 @@ def recipe(seed, events, given):
         if name != "aborted-input" and place % 2:
             name += f"@in-{place // 2 % sizes['inputs']}:{place // 64 % (1 + events // 64 // sizes['inputs']) * 3 + 2}"
         mishaps = [name]
+    if not given.get("mishap") and word[23] % 8 == 0:
+        mishaps.append("unclean-election")
     words = ["--seed", seed, "--events", events]
     for name, value in [*sizes.items(), ("chain", chain), *rates.items(), *(("switch", it) for it in switches), ("switch-at", at), ("no-tail", no_tail), *(("mishap", it) for it in mishaps), ("stop-anywhere", given.get("stop-anywhere", False))]:
         if value is not None and value is not False:
@@ -126,7 +130,7 @@ def swarm(pool, name, count, given):
     index = {int(it["words"][1]): it for it in map(json.loads, found[1].splitlines())}
     told = found[2].splitlines()
     expect(found[0] == 0 and len(index) + len(told) == count, f"{name}: {found[0]}, {len(index)} folders and {len(told)} told of {count}")
-    expect(all("suits this mishap" in it or "not at rest" in it for it in told), f"{name}: {told}")
+    expect(all("suits this mishap" in it or "not at rest" in it or "a record to lose" in it for it in told), f"{name}: {told}")
     wanted = {seed: recipe(seed, events, given) for seed in range(first, first + count)}
     for seed, line in index.items():
         expect(line["words"] == wanted[seed][0], f"{name}: {line['words']}, not {wanted[seed][0]}")
@@ -205,7 +209,7 @@ def main():
     with concurrent.futures.ThreadPoolExecutor(4) as pool:
         told, scores = swarm(pool, "drawn", count, {})
         drawn = collections.Counter(it for score in scores for it in score.words if it.startswith("--"))
-        expect(all(drawn[f"--{it}"] for it in [*SIZES, *RATES, "chain", "switch", "switch-at", "no-tail", "mishap"]), f"what is drawn: {drawn}")
+        expect(all(drawn[f"--{it}"] for it in [*SIZES, *DRAWN, "chain", "switch", "switch-at", "no-tail", "mishap"]), f"what is drawn: {drawn}")
         expect(told < count / 3, f"{told} seeds of {count} leave nothing")
         swarm(pool, "given", count // 5, {"inputs": 3, "lose": 800, "abort": 0, "switch": ["swap-marker", "ignore-generation"], "chain": True})
         swarm(pool, "mistaken", count // 5, {"mishap": ["lost-output@in-0:5"], "switch": ["no-bump"], "switch-at": 17, "outputs": 2})

@@ -1,10 +1,13 @@
 -- Room in the logs.
-use Rattle.std.proofs.Common.{◌≡◌, ◌++◌, ◌∷◌, [], ℕ, ◌-◌, ◌<◌, ◌≤◌, List, slice_set, slice_index_or, length, ◌∙◌, sym, ap, subst, arith}
+use Rattle.std.proofs.Common.{◌≡◌, ◌++◌, ◌∷◌, [], ℕ, ◌+◌, ◌-◌, ◌<◌, ◌≤◌, List, slice_set, slice_index_or, take, length, ◌∙◌, sym, ap, subst, arith}
 use Rattle.std.specs.List.{All}
 use Rattle.std.proofs.lemmas.List.{map-set, get_or-map}
 use Rattle.std.proofs.Math.Seq.{map-set_same}
 use Rattle.std.proofs.lemmas.List.Elements.{All-set, All-push, All-weaker}
 use Rattle.eos_machine.specs.declared.item.Item.{Item}
+use Rattle.eos_machine.specs.World.{World, log_at}
+use Rattle.eos_machine.specs.declared.state.Election.{Election}
+use Rattle.eos_machine.specs.Elections.{epoch_at, election_of}
 use Rattle.eos_broker.specs.Kept.{LogView}
 use Rattle.eos_broker.specs.Held.{IsKeptFor, items_of}
 use Rattle.eos_broker.specs.Named.{IsFrom}
@@ -15,6 +18,19 @@ pub items_put : (logs : List LogView) (p : ℕ) (u v : LogView) (x : Item) → p
 items_put logs p u v x i is e =
     let old : slice_index_or (items_of logs) p [] ≡ u.items = get_or-map (λ l. l.items) logs p u [] i ∙ ap (λ l. l.items) (sym is) in
     map-set (λ l. l.items) logs p v ∙ ap (λ ys. slice_set (items_of logs) p ys) (e ∙ ap (λ ys. ys ++ x ∷ []) (sym old))
+
+-- a log of which only the front is kept
+pub items_taken : (logs : List LogView) (p k : ℕ) (u v : LogView) → p < length logs → u ≡ slice_index_or logs p u → v.items ≡ take k u.items
+    → items_of (slice_set logs p v) ≡ slice_set (items_of logs) p (take k (slice_index_or (items_of logs) p []))
+items_taken logs p k u v i is e =
+    let old : slice_index_or (items_of logs) p [] ≡ u.items = get_or-map (λ l. l.items) logs p u [] i ∙ ap (λ l. l.items) (sym is) in
+    map-set (λ l. l.items) logs p v ∙ ap (λ ys. slice_set (items_of logs) p ys) (e ∙ ap (take k) (sym old))
+
+-- the election that a store adds is the machine's
+pub election_pushed : (w : World) (p k e n : ℕ) (es new : List Election) → es ≡ w.elections → e ≡ epoch_at w p → n ≡ length (log_at w p) → new ≡ es ++ record { place = p; leader_epoch = e + 1; start = k; lost = n - k } ∷ []
+    → new ≡ w.elections ++ election_of w p k ∷ []
+election_pushed w p k e n es new a b m h =
+    h ∙ (λ i. a i ++ record { place = p; leader_epoch = b i + 1; start = k; lost = m i - k } ∷ [])
 
 -- a log that only grew its room
 pub items_same : (logs : List LogView) (p : ℕ) (u v : LogView) → u ≡ slice_index_or logs p u → v.items ≡ u.items → items_of (slice_set logs p v) ≡ items_of logs

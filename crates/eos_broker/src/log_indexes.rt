@@ -2,6 +2,7 @@
 
 ghost use Rattle.std.specs.Prelude.{◌≡◌, ◌==◌, ◌↔◌, ◌&&◌, ◌||◌, ◌<◌, ◌+◌, ◌%◌, ℕ, true, nat_le, nat_lt};
 ghost use Rattle.eos_machine.specs.LogIndexes.{IsConfig, final_count, is_source, txn_index, final_index, input_index, output_index, written_index, log_count, topic_of, number_of, is_odd_output, is_partition, is_topic, offsets_topic, transactions_topic, final_topic, input_topic, output_topic};
+ghost use Rattle.eos_machine.specs.Elections.{electable_at};
 
 use bytes::Bytes;
 use eos_machine::Config;
@@ -110,6 +111,24 @@ pub fn is_partition(config: Config, topic: &Bytes, number: usize) -> bool
             || (is_final_partition(config, topic, number)
                 || (is_input_partition(config, topic, number)
                     || is_output_partition(config, topic, number))))
+}
+
+/// The index of a partition whose leader may change.
+pub fn electable_at(config: Config, topic: &Bytes, number: usize) -> Option<usize>
+    requires { IsConfig config }
+    ensures { result ≡ electable_at config topic.now number }
+{
+    if is_offsets_partition(topic, number) {
+        Some(OFFSETS_INDEX)
+    } else if is_final_partition(config, topic, number) {
+        Some(final_index(config, number))
+    } else if is_input_partition(config, topic, number) {
+        Some(input_index(config, number))
+    } else if is_output_partition(config, topic, number) {
+        Some(output_index(config, number))
+    } else {
+        None
+    }
 }
 
 /// The index of the first partition of a topic that there is: those of its other partitions come after it, by number.

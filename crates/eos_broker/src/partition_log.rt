@@ -1,6 +1,6 @@
 //! A partition's log with what it says of each producer id, kept beside it so that no append looks back.
 
-ghost use Rattle.std.specs.Prelude.{◌≡◌, ◌∷◌, ◌++◌, ◌-◌, ◌+◌, ◌≤◌, ◌<◌, ◌^◌, [], List, length, vec_len, OnOk, OnErr, IfOk};
+ghost use Rattle.std.specs.Prelude.{◌≡◌, ◌∷◌, ◌++◌, ◌-◌, ◌+◌, ◌≤◌, ◌<◌, ◌^◌, [], List, length, take, vec_len, OnOk, OnErr, IfOk};
 ghost use Rattle.std.specs.List.{All};
 ghost use Rattle.eos_machine.specs.declared.item.Item.{Item};
 ghost use Rattle.eos_machine.specs.Application.{Batch, End};
@@ -134,6 +134,15 @@ impl PartitionLog {
     pub fn restart(&mut self)
         ensures { self.new ≡ self.old }
     {
+        reread(&mut self.producers, self.items.as_slice());
+    }
+
+    /// The partition has another leader, which has so many of its items: what it holds of each producer id is made of these
+    /// (`ProducerStateManager.truncateAndReload` of Kafka's sources).
+    pub fn truncate(&mut self, kept: usize)
+        ensures { self.new ≡ record { items = take kept self.old.items; applications = self.old.applications; room = self.old.room } }
+    {
+        self.items.truncate(kept);
         reread(&mut self.producers, self.items.as_slice());
     }
 

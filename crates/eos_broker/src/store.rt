@@ -1,11 +1,12 @@
 //! What a simulated cluster holds in memory: the machine's state, and room for more of each list, so that an event which
 //! takes its memory first can't fail later.
 
-ghost use Rattle.std.specs.Prelude.{◌≡◌, ◌∷◌, ◌++◌, ◌-◌, ◌+◌, ◌≤◌, ◌<◌, ◌^◌, [], OnOk, OnErr, IfOk, replicate};
+ghost use Rattle.std.specs.Prelude.{◌≡◌, ◌∷◌, ◌++◌, ◌-◌, ◌+◌, ◌≤◌, ◌<◌, ◌^◌, [], OnOk, OnErr, IfOk, length, replicate};
 ghost use Rattle.std.specs.List.{All};
 ghost use Rattle.eos_machine.specs.LogIndexes.{IsConfig, application_count};
 ghost use Rattle.eos_machine.specs.World.{opening, fresh, generation_at, generation_of, log_at, with_item, with_generation};
 ghost use Rattle.eos_machine.specs.Logs.{producer_at, unseen};
+ghost use Rattle.eos_machine.specs.Elections.{epoch_at, elected};
 ghost use Rattle.eos_broker.specs.Named.{IsFrom};
 ghost use Rattle.eos_broker.specs.Held.{becomes, held, IsKeptFor, items_of};
 
@@ -14,7 +15,9 @@ pub mod coordinators;
 mod queue;
 
 use crate::{PartitionLog, copies};
-use eos_machine::{Config, Coordinator, Item, Message, Producer, Session, Status};
+use eos_machine::{
+    Config, Coordinator, Election, Item, Message, Producer, Session, Status, leader_epoch,
+};
 use std::alloc::{AllocError, Global};
 use std::marker::Model;
 
@@ -31,6 +34,8 @@ pub struct Store {
     sessions: Vec<Session>,
     /// By group: how often its members have changed.
     generations: Vec<u64>,
+    /// Of the leaders of all partitions, the oldest first.
+    elections: Vec<Election>,
     events: u64,
     spare: usize,
 }
@@ -51,6 +56,7 @@ impl Model for Store {
         accepted = s.accepted.items;
         sessions = s.sessions.items;
         generations = s.generations.items;
+        elections = s.elections.items;
         events = s.events;
       };
       spare = s.spare;
@@ -161,6 +167,7 @@ impl Store {
             accepted: Vec::new(alloc),
             sessions: Vec::new(alloc),
             generations,
+            elections: Vec::new(alloc),
             events: 0,
             spare: 0,
         })
@@ -284,5 +291,44 @@ impl Store {
             let log = &mut self.logs[place];
             log.restart();
         }
+    }
+
+    /// The elections of leaders, the oldest first.
+    pub fn elections(&self) -> &[Election]
+        ensures { result.now ≡ self.now.world.elections }
+    {
+        self.elections.as_slice()
+    }
+
+    /// The leader epoch of the log at a place.
+    pub fn epoch_at(&self, place: usize) -> u16
+        ensures { result ≡ epoch_at self.now.world place }
+    {
+        leader_epoch(
+            self.elections.as_slice(),
+            place,
+            self.log(place).len() as u64,
+        )
+    }
+
+    /// The partition at a place has another leader, which has so many of its items. Where memory is refused nothing changes.
+    pub fn elect(&mut self, place: usize, kept: usize) -> Result<(), AllocError>
+        requires kept { kept ≤ length (log_at self.old.world place) }
+        requires epoch { epoch_at self.old.world place < 65535 }
+        ensures ok { OnOk result (self.new ≡ held self.old (elected self.old.world place kept) self.old.spare) }
+        ensures err { OnErr result (self.new ≡ self.old) }
+    {
+        let election = Election {
+            place,
+            leader_epoch: self.epoch_at(place) + 1,
+            start: kept as u64,
+            lost: (self.log(place).len() - kept) as u64,
+        };
+        self.elections.push(election)?;
+        if place < self.logs.len() {
+            let log = &mut self.logs[place];
+            log.truncate(kept);
+        }
+        Ok(())
     }
 }

@@ -10,6 +10,7 @@ use Rattle.eos_machine.specs.declared.config.Config.{Config}
 use Rattle.eos_machine.specs.declared.item.Item.{Item}
 use Rattle.eos_machine.specs.LogIndexes.{log_count}
 use Rattle.eos_machine.specs.World.{World, log_at}
+use Rattle.eos_machine.specs.declared.state.Election.{Election}
 use Rattle.eos_machine.specs.Evidences.{log_segments, cluster_segments, adding, HaveTexts}
 use Rattle.eos_log_writer.proofs.Adding.{range_step}
 use Rattle.std.specs.Prelude.{IsOk}
@@ -36,26 +37,26 @@ log_added f e g all i n l h a =
     h ∙ (ap (λ ks. adding e (flat_map f ks)) (range_step i n l) ∙ (adding_both e (f i) (flat_map f (range_with_len (i + 1) (n - (i + 1)))) ∙ ap (λ r. r >>= λ k. adding k (flat_map f (range_with_len (i + 1) (n - (i + 1))))) a))
 
 pub logs_step : (c d : Config) (w : World) (e g : EvidenceParts) (all : Result EvidenceParts AddFault) (p : ℕ) (log : List Item) → c ≡ d → log ≡ log_at w p → p < log_count c
-    → all ≡ adding e (flat_map (λ q. log_segments d q (log_at w q)) (range_with_len p (log_count d - p))) → adding e (log_segments c p log) ≡ Ok g
-    → all ≡ adding g (flat_map (λ q. log_segments d q (log_at w q)) (range_with_len (p + 1) (log_count d - (p + 1))))
+    → all ≡ adding e (flat_map (λ q. log_segments d q w.elections (log_at w q)) (range_with_len p (log_count d - p))) → adding e (log_segments c p w.elections log) ≡ Ok g
+    → all ≡ adding g (flat_map (λ q. log_segments d q w.elections (log_at w q)) (range_with_len (p + 1) (log_count d - (p + 1))))
 logs_step c d w e g all p log m is l h a =
-    log_added (λ q. log_segments d q (log_at w q)) e g all p (log_count d) (subst (λ k. p < log_count k) m l) h
-    (subst (λ k. adding e (log_segments k p (log_at w p)) ≡ Ok g) m (subst (λ xs. adding e (log_segments c p xs) ≡ Ok g) is a))
+    log_added (λ q. log_segments d q w.elections (log_at w q)) e g all p (log_count d) (subst (λ k. p < log_count k) m l) h
+    (subst (λ k. adding e (log_segments k p w.elections (log_at w p)) ≡ Ok g) m (subst (λ xs. adding e (log_segments c p w.elections xs) ≡ Ok g) is a))
 
 -- before any of them
 pub first_logs : (c : Config) (w : World) (e : EvidenceParts)
-    → adding e (cluster_segments c w) ≡ adding e (flat_map (λ p. log_segments c p (log_at w p)) (range_with_len 0 (log_count c - 0)))
-first_logs c w e = let k : log_count c ≡ log_count c - 0 = omega arith in ap (λ j. adding e (flat_map (λ p. log_segments c p (log_at w p)) (range_with_len 0 j))) k
+    → adding e (cluster_segments c w) ≡ adding e (flat_map (λ p. log_segments c p w.elections (log_at w p)) (range_with_len 0 (log_count c - 0)))
+first_logs c w e = let k : log_count c ≡ log_count c - 0 = omega arith in ap (λ j. adding e (flat_map (λ p. log_segments c p w.elections (log_at w p)) (range_with_len 0 j))) k
 
 -- ---- what is written reads back
 
-pub logs_written : (c d : Config) (w : World) (p : ℕ) (log : List Item) → c ≡ d → log ≡ log_at w p → ((q : ℕ) → q < p → HaveTexts d (log_at w q)) → HaveTexts c log → (q : ℕ) → q < p + 1 → HaveTexts d (log_at w q)
+pub logs_written : (c d : Config) (w : World) (p : ℕ) (log : List Item) → c ≡ d → log ≡ log_at w p → ((q : ℕ) → q < p → HaveTexts d q w.elections (log_at w q)) → HaveTexts c p w.elections log → (q : ℕ) → q < p + 1 → HaveTexts d q w.elections (log_at w q)
 logs_written c d w p log m is h k q l = elim (cases_lt q p) [
   | inl b ↦ h q b
-  | inr b ↦ let e : q ≡ p = omega (arith, b, l) in subst (λ r. HaveTexts d (log_at w r)) (sym e) (subst (HaveTexts d) is (subst (λ x. HaveTexts x log) m k))
+  | inr b ↦ let e : q ≡ p = omega (arith, b, l) in subst (λ r. HaveTexts d r w.elections (log_at w r)) (sym e) (subst (HaveTexts d p w.elections) is (subst (λ x. HaveTexts x p w.elections log) m k))
 ]
 
-pub all_logs : (c d : Config) (w : World) (p n : ℕ) → c ≡ d → n ≡ log_count c → n ≤ p → ((q : ℕ) → q < p → HaveTexts d (log_at w q)) → (q : ℕ) → q < log_count d → HaveTexts d (log_at w q)
+pub all_logs : (c d : Config) (w : World) (p n : ℕ) → c ≡ d → n ≡ log_count c → n ≤ p → ((q : ℕ) → q < p → HaveTexts d q w.elections (log_at w q)) → (q : ℕ) → q < log_count d → HaveTexts d q w.elections (log_at w q)
 all_logs c d w p n m e l h q k = let f = ap log_count m in h q (omega (arith, f, e, l, k))
 
 -- ---- nothing is refused
@@ -69,22 +70,22 @@ whole_taken c w e g is = let a = segments_added c w g in subst (λ x. IsOk (addi
 
 -- the next log
 pub log_taken : (c : Config) (w : World) (all : Result EvidenceParts AddFault) (e : EvidenceParts) (p : ℕ) → IsOk all → p < log_count c
-    → all ≡ adding e (flat_map (λ q. log_segments c q (log_at w q)) (range_with_len p (log_count c - p))) → IsOk (adding e (log_segments c p (log_at w p)))
+    → all ≡ adding e (flat_map (λ q. log_segments c q w.elections (log_at w q)) (range_with_len p (log_count c - p))) → IsOk (adding e (log_segments c p w.elections (log_at w p)))
 log_taken c w all e p o l h =
-    at (adding e (log_segments c p (log_at w p))) (subst IsOk (h ∙ (ap (λ ks. adding e (flat_map (λ q. log_segments c q (log_at w q)) ks)) (range_step p (log_count c) l)
-    ∙ adding_both e (log_segments c p (log_at w p)) (flat_map (λ q. log_segments c q (log_at w q)) (range_with_len (p + 1) (log_count c - (p + 1)))))) o)
+    at (adding e (log_segments c p w.elections (log_at w p))) (subst IsOk (h ∙ (ap (λ ks. adding e (flat_map (λ q. log_segments c q w.elections (log_at w q)) ks)) (range_step p (log_count c) l)
+    ∙ adding_both e (log_segments c p w.elections (log_at w p)) (flat_map (λ q. log_segments c q w.elections (log_at w q)) (range_with_len (p + 1) (log_count c - (p + 1)))))) o)
   where
-    at : (r : Result EvidenceParts AddFault) → IsOk (r >>= λ f. adding f (flat_map (λ q. log_segments c q (log_at w q)) (range_with_len (p + 1) (log_count c - (p + 1))))) → IsOk r
+    at : (r : Result EvidenceParts AddFault) → IsOk (r >>= λ f. adding f (flat_map (λ q. log_segments c q w.elections (log_at w q)) (range_with_len (p + 1) (log_count c - (p + 1))))) → IsOk r
     at (Ok f) k = refl
     at (Err x) k = k
 
 -- what add_log says, of the log at a place
-pub log_only : (c d : Config) (w : World) (p : ℕ) (log : List Item) (b : EvidenceParts) (R : Type 0) → c ≡ d → log ≡ log_at w p → IsWritable d w → p < log_count d → IsOk (adding b (log_segments d p (log_at w p)))
-    → (p < log_count c → All (IsFit c) log → IsOk (adding b (log_segments c p log)) → R) → R
-log_only c d w p log b R e i g l o h =
+pub log_only : (c d : Config) (w : World) (p : ℕ) (es : List Election) (log : List Item) (b : EvidenceParts) (R : Type 0) → c ≡ d → es ≡ w.elections → log ≡ log_at w p → IsWritable d w → p < log_count d → IsOk (adding b (log_segments d p w.elections (log_at w p)))
+    → (p < log_count c → All (IsFit c) log → IsOk (adding b (log_segments c p es log)) → R) → R
+log_only c d w p es log b R e f i g l o h =
     h (subst (λ k. p < log_count k) (sym e) l)
     (subst (λ k. All (IsFit k) log) (sym e) (subst (All (IsFit d)) (sym i) (g.fit p)))
-    (subst (λ k. IsOk (adding b (log_segments k p log))) (sym e) (subst (λ xs. IsOk (adding b (log_segments d p xs))) (sym i) o))
+    (subst (λ k. IsOk (adding b (log_segments k p es log))) (sym e) (subst (λ x. IsOk (adding b (log_segments d p x log))) (sym f) (subst (λ xs. IsOk (adding b (log_segments d p w.elections xs))) (sym i) o)))
 
 pub spec_taken : (c : Config) (w : World) → IsWritable c w → (apps : List App) (ends : List End) (f : SpecFault) → apps ≡ groups_of c → ends ≡ map (end_of c w) (range_with_len 0 (log_count c))
     → (let r : Result SpecFields SpecFault = Err f in r ≡ accepted (record { apps = apps; ends = ends })) → ⊥

@@ -5,5 +5,6 @@ pub mod Replies
 pub mod Backward
 pub mod Settled
 pub mod Ranges
+pub mod Lossless
 mod Refused
 mod LastEntries

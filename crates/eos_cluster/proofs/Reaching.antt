@@ -16,6 +16,7 @@ use Rattle.eos_machine.specs.declared.event.Reply.TheVariants.{Done, Fenced, Out
 use Rattle.eos_machine.specs.LogIndexes.{IsConfig, txn_index}
 use Rattle.eos_machine.specs.World.{World, opening, log_at}
 use Rattle.eos_machine.specs.Answers.{Answer, when}
+use Rattle.eos_machine.specs.Elections.{LosesNothing}
 use Rattle.eos_machine.specs.Machine.{happens_under, counted, step_under, step, world_under, world_after}
 use Rattle.eos_machine.specs.Bounds.{Bounded, IsSafe}
 use Rattle.eos_machine.specs.Formed.{Names, IsFormed}
@@ -41,8 +42,8 @@ use Rattle.eos_broker.specs.Held.{Held, becomes}
 
 -- ---- what holds
 
-pub is_good : (c : Config) (w : World) → IsConfig c → IsReached c w → Good c w
-is_good c w i r = subst (Good c) (sym r.world_after) (good_run c (opening c) r.taken i (good_opening c))
+pub is_good : (c : Config) (w : World) → IsConfig c → IsReached c w → LosesNothing w → Good c w
+is_good c w i r n = subst (Good c) (sym r.world_after) (good_run c (opening c) r.taken i (good_opening c) (subst LosesNothing r.world_after n))
 
 is_bounded : (c : Config) (w : World) → IsReachedUnder c w → Bounded w.events w
 is_bounded c w r = subst (λ (v : World). Bounded v.events v) (sym r.world_after) (bounded_run_under c (opening c) r.taken (bounded_opening c))
@@ -52,20 +53,20 @@ is_formed c w r = subst (IsFormed c) (sym r.world_after) (formed_run c (opening 
 
 -- ---- the theorem on every schedule
 
-pub keeps_sequences_there : (c : Config) (w : World) → IsConfig c → IsReached c w → KeepsSequences c w
-keeps_sequences_there c w i r = keeps_sequences c w (is_good c w i r) (subst IsCounted (sym r.world_after) (counted_run c (opening c) r.taken (counted_opening c)))
+pub keeps_sequences_there : (c : Config) (w : World) → IsConfig c → IsReached c w → LosesNothing w → KeepsSequences c w
+keeps_sequences_there c w i r n = keeps_sequences c w (is_good c w i r n) (subst IsCounted (sym r.world_after) (counted_run c (opening c) r.taken (counted_opening c)))
 
-pub steps_fit_there : (c : Config) (w : World) → IsConfig c → IsReached c w → StepsFit c w
-steps_fit_there c w i r = λ a. all_steps c a (log_at w (txn_index c a)) ((is_good c w i r).steps a)
+pub steps_fit_there : (c : Config) (w : World) → IsConfig c → IsReached c w → LosesNothing w → StepsFit c w
+steps_fit_there c w i r n = λ a. all_steps c a (log_at w (txn_index c a)) ((is_good c w i r n).steps a)
 
-pub atomic_there : (c : Config) (w : World) → IsConfig c → IsReached c w → IsAtRest w → AllAtomic c w
-atomic_there c w i r h = rest_is_atomic c w (is_good c w i r) h
+pub atomic_there : (c : Config) (w : World) → IsConfig c → IsReached c w → LosesNothing w → IsAtRest w → AllAtomic c w
+atomic_there c w i r n h = rest_is_atomic c w (is_good c w i r n) h
 
-pub neighbours_fit_there : (c : Config) (w : World) → IsConfig c → IsReached c w → IsAtRest w → NeighboursFit c w
-neighbours_fit_there c w i r h = neighbours_fit c w (keeps_sequences_there c w i r) (atomic_there c w i r h)
+pub neighbours_fit_there : (c : Config) (w : World) → IsConfig c → IsReached c w → LosesNothing w → IsAtRest w → NeighboursFit c w
+neighbours_fit_there c w i r n h = neighbours_fit c w (keeps_sequences_there c w i r n) (atomic_there c w i r n h)
 
-pub of_schedule : (c : Config) (w : World) (e : EvidenceParts) → IsConfig c → IsReached c w → IsAtRest w → IsEvidenceOf c w e → IsOfSchedule e
-of_schedule c w e i r h k = record { config = c; world = w; events = r.taken; sizes = i; world_after = r.world_after; rest = h; evidence = k }
+pub of_schedule : (c : Config) (w : World) (e : EvidenceParts) → IsConfig c → IsReached c w → LosesNothing w → IsAtRest w → IsEvidenceOf c w e → IsOfSchedule e
+of_schedule c w e i r n h k = record { config = c; world = w; events = r.taken; sizes = i; world_after = r.world_after; lossless = n; rest = h; evidence = k }
 
 -- within the room there is evidence of it
 pub writable_there : (c : Config) (w : World) → IsConfig c → IsReachedUnder c w → HasRoomForAll c w → IsWritable c w
@@ -108,6 +109,7 @@ needs c w e l r = at e (is_bounded c w r) (is_formed c w r)
     at (events.AddPartition n p) b f = tt
     at (events.WriteMarker n) b f = named c w.messages n f.messages
     at (events.Complete a) b f = tt
+    at (events.Elect t p k) b f = tt
 
 -- ---- an event more
 

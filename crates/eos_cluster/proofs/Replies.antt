@@ -22,6 +22,7 @@ use Rattle.eos_machine.specs.World.{World, coord_at, log_at}
 use Rattle.eos_machine.specs.Answers.{Answer, when}
 use Rattle.eos_machine.specs.Sessions.{resume_ended, produce, commit_offset, end_session, resume, fetch}
 use Rattle.eos_machine.specs.Deliveries.{appended, fenced, deliver, write_marker, complete_prepared}
+use Rattle.eos_machine.specs.Elections.{electable_at, elect}
 use Rattle.eos_machine.specs.Machine.{start_session, add_partition, happens_under}
 use Rattle.eos_broker.specs.steps.Proper.{IsProper}
 
@@ -95,6 +96,10 @@ added u c w p (Some s) = either _ _ _ tt (either _ _ _ tt (either _ _ _ tt (eith
 started : (u : Switches) (c : Config) (w : World) (a e : ℕ) → IsProperAnswer (start_session u c w a e)
 started u c w a e = either _ _ _ tt tt
 
+elects : (w : World) (k : ℕ) (r : Option ℕ) → IsProperAnswer (elect w k r)
+elects w k None = tt
+elects w k (Some p) = either _ _ _ tt (either _ _ _ tt tt)
+
 proper : (u : Switches) (c : Config) (w : World) (e : Event) → IsProper (happens_under u c w e).1
 proper u c w (events.Feed p) = either _ _ _ tt tt
 proper u c w (events.Start a) = either _ _ _ tt (either _ _ _ tt (either _ _ _ tt (started u c w a (if (coord_at w a).started then (coord_at w a).epoch + 1 else 0))))
@@ -113,6 +118,7 @@ proper u c w (events.TimeOut a) = either _ _ _ tt (either _ _ _ tt (delivered u 
 proper u c w (events.AddPartition n p) = added u c w p (slice_get w.sessions n)
 proper u c w (events.WriteMarker n) = written u c w (slice_get w.messages n)
 proper u c w (events.Complete a) = either _ _ _ tt (completed u c w a (coord_at w a).status)
+proper u c w (events.Elect t p k) = elects w k (electable_at c t p)
 
 pub proper_of : (u : Switches) (c : Config) (w v : World) (e : Event) (r : Reply) → (v, r) ≡ happens_under u c w e → IsProper r
 proper_of u c w v e r h = subst IsProper (sym (ap (λ x. x.1) h)) (proper u c w e)

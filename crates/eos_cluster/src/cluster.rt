@@ -1,9 +1,11 @@
 //! A cluster that takes events one by one.
 
-ghost use Rattle.std.specs.Prelude.{◌≡◌, ◌↔◌, ◌≤◌, ◌<◌, ◌^◌, ◌&&◌, not, true, [], Err, IfOk, slice_get};
+ghost use Rattle.std.specs.Prelude.{◌≡◌, ◌↔◌, ◌≤◌, ◌<◌, ◌^◌, ◌==◌, ◌&&◌, not, true, [], length, Err, IfOk, option_map, slice_get};
+ghost use Rattle.std.specs.List.{list_all};
 ghost use Rattle.eos_evidence.specs.Evidence.{IsEvidence};
 ghost use Rattle.eos_machine.specs.LogIndexes.{IsConfig, output_index};
 ghost use Rattle.eos_machine.specs.World.{opening, log_at};
+ghost use Rattle.eos_machine.specs.Elections.{electable_at, LosesNothing};
 ghost use Rattle.eos_machine.specs.Rest.{IsAtRest, KeepsSequences, StepsFit, AllAtomic, NeighboursFit};
 ghost use Rattle.eos_cluster.specs.declared.cluster.NewFault.{NewFault};
 ghost use Rattle.eos_cluster.specs.Names.{new_fault_name};
@@ -20,11 +22,12 @@ ghost use Rattle.eos_cluster.specs.Courses.{IsStep, IsStepUnder, IsCounted};
 use crate::breaches::{broken, log_of_message, refusal};
 use crate::evidence::{EvidenceRefusal, evidence_of};
 use crate::happens::happen;
+use bytes::Bytes;
 use eos_broker::Store;
-use eos_broker::log_indexes::output_index;
+use eos_broker::log_indexes::{electable_at, output_index};
 use eos_evidence::{Evidence, MAX_SEGMENTS};
 use eos_log_writer::log_count;
-use eos_machine::{Config, Event, Item, Reply, Switches};
+use eos_machine::{Config, Election, Event, Item, Reply, Switches};
 use std::alloc::{AllocError, Global};
 use std::marker::Model;
 use thiserror::Error;
@@ -95,6 +98,13 @@ fn is_config(config: Config) -> bool
         && is_between(config.transaction_logs, 1, 4)
         && is_between(config.segment_records, 1, 1000)
         && is_between(config.batch_records, 1, 1000)
+}
+
+/// Whether none of these has lost a record.
+fn lose_nothing(elections: &[Election]) -> bool
+    ensures { result ≡ list_all (λ x. x.lost == 0) elections.now }
+{
+    elections.iter().all(|election| election.lost == 0)
 }
 
 impl Cluster {
@@ -211,6 +221,30 @@ impl Cluster {
         self.store.config_ref()
     }
 
+    /// The elections of leaders, the oldest first, with what each has lost.
+    pub fn elections(&self) -> &[Election]
+        ensures { result.now ≡ self.now.world.elections }
+    {
+        self.store.elections()
+    }
+
+    /// Whether no election has lost a record.
+    pub fn loses_nothing(&self) -> bool
+        ensures { result ≡ true ↔ LosesNothing self.now.world }
+    {
+        lose_nothing(self.store.elections())
+    }
+
+    /// How many records the log of a partition has whose leader may change: those of `in`, `out`, `fin` and `__consumer_offsets`.
+    pub fn record_count(&self, topic: &Bytes, partition: usize) -> Option<usize>
+        ensures { result ≡ option_map (λ p. length (log_at self.now.world p)) (electable_at self.now.config topic.now partition) }
+    {
+        match electable_at(self.store.config(), topic, partition) {
+            Some(place) => Some(self.store.log(place).len()),
+            None => None,
+        }
+    }
+
     /// What stands in a partition of `out`, by offset: nothing where there is no such partition.
     pub fn output_log(&self, partition: usize) -> &[Item]
         ensures there { partition < self.now.config.outputs → result.now ≡ log_at self.now.world (output_index self.now.config partition) }
@@ -223,15 +257,15 @@ impl Cluster {
         self.store.log(output_index(config, partition))
     }
 
-    /// Whether no transaction is open or still ending. Whatever events an honest cluster has taken: no fault of a sequence or
-    /// of an epoch stands at any batch of its logs, and each record of its transaction log may follow the one before it. At
-    /// rest, the batches, the markers and the decisions of each application fit together.
+    /// Whether no transaction is open or still ending. Whatever events an honest cluster has taken, if no election has lost a
+    /// record: no fault of a sequence or of an epoch stands at any batch of its logs, and each record of its transaction log may
+    /// follow the one before it. At rest, the batches, the markers and the decisions of each application fit together.
     pub fn at_rest(&self) -> bool
         ensures rest { result ≡ true ↔ IsAtRest self.now.world }
-        ensures sequences { self.now.honest ≡ true → KeepsSequences self.now.config self.now.world }
-        ensures steps { self.now.honest ≡ true → StepsFit self.now.config self.now.world }
-        ensures atomic { self.now.honest ≡ true → IsAtRest self.now.world → AllAtomic self.now.config self.now.world }
-        ensures neighbours { self.now.honest ≡ true → IsAtRest self.now.world → NeighboursFit self.now.config self.now.world }
+        ensures sequences { self.now.honest ≡ true → LosesNothing self.now.world → KeepsSequences self.now.config self.now.world }
+        ensures steps { self.now.honest ≡ true → LosesNothing self.now.world → StepsFit self.now.config self.now.world }
+        ensures atomic { self.now.honest ≡ true → LosesNothing self.now.world → IsAtRest self.now.world → AllAtomic self.now.config self.now.world }
+        ensures neighbours { self.now.honest ≡ true → LosesNothing self.now.world → IsAtRest self.now.world → NeighboursFit self.now.config self.now.world }
     {
         self.store.at_rest()
     }
@@ -249,7 +283,8 @@ impl Cluster {
     /// The logs of a cluster at rest as evidence, honest or not: in segments of the configured number of records, the last of
     /// a partition with as many as are left, with true ends; the groups are `g`, which reads `in` and writes `out`,
     /// and, where there is a second one, `h`, which reads `out` and writes `fin`. Of an honest
-    /// cluster it is the evidence of a schedule, of which `eos_simulate` says that no fault of the logs stands in it.
+    /// cluster, if no election has lost a record, it is the evidence of a schedule, of which `eos_simulate` says that no fault of
+    /// the logs stands in it.
     ///
     /// # Errors
     /// `NotAtRest` where a transaction is open or still ending; `OutOfMemory` where a growth was refused.
@@ -257,7 +292,7 @@ impl Cluster {
         requires { HasRoomForAll self.now.config self.now.world }
         ensures ok { IfOk result (IsEvidenceOf self.now.config self.now.world) }
         ensures evidence { IfOk result IsEvidence }
-        ensures schedule { self.now.honest ≡ true → IfOk result IsOfSchedule }
+        ensures schedule { self.now.honest ≡ true → LosesNothing self.now.world → IfOk result IsOfSchedule }
         ensures rest { result ≡ Err EvidenceRefusal.NotAtRest ↔ (IsAtRest self.now.world → ⊥) }
     {
         if !self.store.at_rest() {

@@ -15,7 +15,7 @@ ghost use Rattle.eos_cluster.specs.Names.{evidence_refusal_name};
 use eos_base::Listed;
 use eos_broker::Store;
 use eos_evidence::{End, Evidence, EvidenceBuilder, Spec};
-use eos_log_writer::{LogFault, add_log, end_of, groups_of, log_count};
+use eos_log_writer::{Leaders, LogFault, add_log, end_of, groups_of, log_count};
 use std::alloc::AllocError;
 use thiserror::Error;
 
@@ -74,15 +74,17 @@ fn of_memory(_fault: LogFault) -> AllocError
 fn add_at(store: &Store, builder: &mut EvidenceBuilder, place: usize) -> Result<(), AllocError>
     requires writable { IsWritable store.now.config store.now.world }
     requires place { place < log_count store.now.config }
-    requires taken { IsOk (adding builder.old (log_segments store.now.config place (log_at store.now.world place))) }
-    ensures added { OnOk result (adding builder.old (log_segments store.now.config place (log_at store.now.world place)) ≡ Ok builder.new) }
-    ensures written { OnOk result (HaveTexts store.now.config (log_at store.now.world place)) }
+    requires taken { IsOk (adding builder.old (log_segments store.now.config place store.now.world.elections (log_at store.now.world place))) }
+    ensures added { OnOk result (adding builder.old (log_segments store.now.config place store.now.world.elections (log_at store.now.world place)) ≡ Ok builder.new) }
+    ensures written { OnOk result (HaveTexts store.now.config place store.now.world.elections (log_at store.now.world place)) }
 {
+    let elections = store.elections();
+    let leaders = Leaders { place, elections };
     match add_log(
         store.alloc(),
         builder,
         store.config(),
-        place,
+        leaders,
         store.log(place),
     ) {
         Ok(()) => Ok(()),
@@ -95,7 +97,7 @@ fn add_logs(store: &Store, builder: &mut EvidenceBuilder) -> Result<(), AllocErr
     requires writable { IsWritable store.now.config store.now.world }
     requires begun { builder.old ≡ without_segments (parts_of store.now.config store.now.world) }
     ensures added { OnOk result (adding builder.old (cluster_segments store.now.config store.now.world) ≡ Ok builder.new) }
-    ensures written { OnOk result ((p : ℕ) → p < log_count store.now.config → HaveTexts store.now.config (log_at store.now.world p)) }
+    ensures written { OnOk result ((p : ℕ) → p < log_count store.now.config → HaveTexts store.now.config p store.now.world.elections (log_at store.now.world p)) }
 {
     for place in 0..log_count(store.config()) {
         add_at(store, builder, place)?;

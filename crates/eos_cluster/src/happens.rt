@@ -1,6 +1,9 @@
 //! Whatever happens to a cluster: each event, and its effect.
 
-ghost use Rattle.std.specs.Prelude.{◌≡◌, ◌<◌, ◌^◌, OnErr, IfOk};
+ghost use Rattle.std.specs.Prelude.{◌≡◌, ◌<◌, ◌^◌, Some, OnErr, IfOk};
+ghost use Rattle.eos_machine.specs.declared.event.Event.TheVariants.{CoordinatorRestart};
+ghost use Rattle.eos_machine.specs.Switching.{none};
+ghost use Rattle.eos_machine.specs.Elections.{electable_at, elect};
 ghost use Rattle.eos_machine.specs.Machine.{change_members, restart_broker, happens_under};
 ghost use Rattle.eos_machine.specs.World.{generation_at};
 ghost use Rattle.eos_broker.specs.steps.Named.{Needs};
@@ -11,7 +14,7 @@ use crate::deliver_end::time_out;
 use crate::{commit, deliver, end, feed, fetch, produce, restart, resume, start};
 use bytes::Bytes;
 use eos_broker::Store;
-use eos_broker::log_indexes::{is_partition, start_of};
+use eos_broker::log_indexes::{electable_at, is_partition, start_of};
 use eos_machine::{Event, Reply, Switches};
 use std::alloc::AllocError;
 
@@ -29,6 +32,36 @@ fn restart_broker(store: &mut Store, topic: &Bytes, partition: usize) -> Reply
     Reply::Done(0)
 }
 
+/// The partition at a place gets another leader, which has so many records of its log.
+#[tactic(auto, unfolding(eos_machine::specs::Answers::when))]
+fn elect_at(store: &mut Store, place: usize, kept: u64) -> Result<Reply, AllocError>
+    ensures ok { IfOk result (λ r. (store.new.world, r) ≡ elect store.old.world kept (Some place)) }
+    ensures err { OnErr result (store.new.world ≡ store.old.world) }
+    ensures config { store.new.config ≡ store.old.config }
+{
+    if (store.log(place).len() as u64) < kept {
+        return Ok(Reply::Unknown);
+    }
+    let epoch = store.epoch_at(place);
+    if epoch >= u16::MAX {
+        return Ok(Reply::EpochsSpent);
+    }
+    store.elect(place, kept as usize)?;
+    Ok(Reply::Done(u64::from(epoch) + 1))
+}
+
+/// A partition gets another leader, if its leader may change.
+fn elect(store: &mut Store, topic: &Bytes, partition: usize, kept: u64) -> Result<Reply, AllocError>
+    ensures ok { IfOk result (λ r. (store.new.world, r) ≡ elect store.old.world kept (electable_at store.old.config topic.now partition)) }
+    ensures err { OnErr result (store.new.world ≡ store.old.world) }
+    ensures config { store.new.config ≡ store.old.config }
+{
+    match electable_at(store.config(), topic, partition) {
+        Some(place) => elect_at(store, place, kept),
+        None => Ok(Reply::Unknown),
+    }
+}
+
 /// The members of a group change, and those of no other.
 #[tactic(auto, unfolding(eos_machine::specs::Answers::when))]
 fn change_members(store: &mut Store, group: usize) -> Reply
@@ -41,6 +74,16 @@ fn change_members(store: &mut Store, group: usize) -> Reply
     }
     store.set_generation(group, store.generation(group) + 1);
     Reply::Done(0)
+}
+
+/// The coordinator restarts: it makes what it holds anew from its logs.
+fn restart_coordinator(store: &mut Store) -> Result<Reply, AllocError>
+    ensures ok { IfOk result (λ r. (store.new.world, r) ≡ happens_under none store.old.config store.old.world CoordinatorRestart) }
+    ensures err { OnErr result (store.new.world ≡ store.old.world) }
+    ensures config { store.new.config ≡ store.old.config }
+{
+    restart(store)?;
+    Ok(Reply::Done(0))
 }
 
 /// An event happens. It isn't counted here.
@@ -72,10 +115,7 @@ pub(crate) fn happen(
         Event::Fetch { session, source } => fetch(store, session, source),
         Event::Members { group } => Ok(change_members(store, group)),
         Event::BrokerRestart { topic, partition } => Ok(restart_broker(store, &topic, partition)),
-        Event::CoordinatorRestart => {
-            restart(store)?;
-            Ok(Reply::Done(0))
-        }
+        Event::CoordinatorRestart => restart_coordinator(store),
         Event::Deliver { message } => deliver(store, switches, message),
         Event::TimeOut { application } => time_out(store, switches, application),
         Event::AddPartition { session, partition } => {
@@ -83,5 +123,10 @@ pub(crate) fn happen(
         }
         Event::WriteMarker { message } => write_marker(store, switches, message),
         Event::Complete { application } => complete(store, switches, application),
+        Event::Elect {
+            topic,
+            partition,
+            kept,
+        } => elect(store, &topic, partition, kept),
     }
 }

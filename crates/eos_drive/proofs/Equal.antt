@@ -5,7 +5,7 @@ use Rattle.std.proofs.lemmas.Slice.Eq.{bytes_eq-Decides}
 use Rattle.std.proofs.lemmas.Bool.Decides.{Decides-and, Decides-int_eq}
 use Rattle.eos_machine.specs.declared.item.Claim.{Claim}
 use Rattle.eos_machine.specs.declared.event.Event.{Event}
-use Rattle.eos_machine.specs.declared.event.Event.TheVariants.{Feed, Start, Produce, Commit, End, Resume, Fetch, Members, BrokerRestart, CoordinatorRestart, Deliver, TimeOut, AddPartition, WriteMarker, Complete}
+use Rattle.eos_machine.specs.declared.event.Event.TheVariants.{Feed, Start, Produce, Commit, End, Resume, Fetch, Members, BrokerRestart, CoordinatorRestart, Deliver, TimeOut, AddPartition, WriteMarker, Complete, Elect}
 use Rattle.eos_machine.specs.contracts.item.ClaimPartialEq.TheImpl.{ghosts as claim_test}
 use Rattle.eos_machine.specs.contracts.event.EventPartialEq.TheImpl.{ghosts as event_test}
 
@@ -36,3 +36,4 @@ events_decide (TimeOut p) b = search rules
 events_decide (AddPartition n p) b = search rules
 events_decide (WriteMarker m) b = search rules
 events_decide (Complete p) b = search rules
+events_decide (Elect t p k) b = search rules

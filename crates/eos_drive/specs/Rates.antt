@@ -20,10 +20,11 @@ today = record {
   time_out = None;
   add_partition = None;
   late_complete = None;
+  elect = None;
 }
 
 -- of 32,000 words how many say one of these
 abbrev pub sum_of : Rates → ℕ
 sum_of r = share_of r.lose 500 + share_of r.repeat 2000 + share_of r.abandon 250 + share_of r.members 125
     + share_of r.restart_broker 250 + share_of r.restart_coordinator 375 + share_of r.abort 1000 + share_of r.time_out 0 + share_of r.add_partition 0
-    + share_of r.late_complete 0
+    + share_of r.late_complete 0 + share_of r.elect 0

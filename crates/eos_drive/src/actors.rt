@@ -19,7 +19,7 @@ use std::mem;
 /// The applications of the groups and the network, as far as the replies tell.
 #[derive(Drop)]
 pub(crate) struct Actors {
-    alloc: Global,
+    pub(crate) alloc: Global,
     rates: Rates,
     /// How many applications there are.
     pub(crate) applications: usize,
@@ -27,6 +27,8 @@ pub(crate) struct Actors {
     pub(crate) network: Network,
     /// The present instance of each application, and after them abandoned ones that don't know it yet.
     pub(crate) instances: Vec<Instance>,
+    /// How many leaders are still to be lost whose followers lack their last records.
+    pub(crate) unclean: u64,
 }
 
 /// How many abandoned instances go on at most.
@@ -51,6 +53,7 @@ impl Actors {
             plan: Plan::new(alloc, *config, settings.mishaps)?,
             network: Network::new(alloc, settings.links),
             instances,
+            unclean: settings.unclean,
         })
     }
 
@@ -79,6 +82,7 @@ impl Actors {
             Happening::TimeOut => self.time_out(cluster, driver, rest),
             Happening::AddPartition => self.add_partition(cluster, driver, rest),
             Happening::CompleteLate => self.complete_late(cluster, driver, rest),
+            Happening::Elect => self.elect(cluster, driver, rest),
         }
     }
 

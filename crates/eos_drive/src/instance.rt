@@ -66,6 +66,8 @@ pub(crate) struct Instance {
     is_idle: bool,
     /// Whether another transaction kept a partition from it when it last looked.
     is_kept_out: bool,
+    /// Whether records that were acknowledged have been lost since its session began.
+    is_set_back: bool,
 }
 
 impl Instance {
@@ -79,6 +81,7 @@ impl Instance {
             sent: Vec::new(alloc),
             is_idle: false,
             is_kept_out: false,
+            is_set_back: false,
         }
     }
 
@@ -244,6 +247,7 @@ impl Instance {
             Reply::Done(session) => {
                 self.session = session as usize;
                 self.generation = plan.generation_of(self.application);
+                self.is_set_back = false;
                 self.begin();
             }
             Reply::EpochsSpent => self.stage = Stage::Spent,
@@ -308,6 +312,11 @@ impl Instance {
         }
     }
 
+    /// A leader was elected that lacks records: a sequence that it finds out of order may be so for good.
+    pub(crate) fn set_back(&mut self) {
+        self.is_set_back = true;
+    }
+
     /// Hears what was answered where it added a partition.
     pub(crate) fn hear_added(&mut self, reply: Reply) {
         if reply == Reply::Fenced {
@@ -337,6 +346,7 @@ impl Instance {
             match reply {
                 Reply::Done(_) | Reply::DuplicateKept => self.sent[i].is_accepted = true,
                 Reply::Fenced | Reply::StaleGeneration => self.stage = Stage::Away,
+                Reply::OutOfOrder if self.is_set_back => self.stage = Stage::Away,
                 _ => {}
             }
         }

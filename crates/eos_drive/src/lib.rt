@@ -12,6 +12,7 @@
 mod actors;
 mod deed;
 mod driver;
+mod elections;
 mod finer_steps;
 mod finished;
 mod history;

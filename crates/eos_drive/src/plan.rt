@@ -87,6 +87,20 @@ impl Plan {
         }
     }
 
+    /// So many inputs of a source are left.
+    pub(crate) fn lost_inputs(&mut self, source: usize, left: u64) {
+        if source < self.ends.len() {
+            self.ends[source] = left;
+        }
+    }
+
+    /// The second group reads a partition of `out` from its first record on, since it lost its last ones.
+    pub(crate) fn lost_outputs(&mut self, alloc: Global, partition: usize) {
+        if partition < self.readers.len() {
+            self.readers[partition] = Reader::new(alloc);
+        }
+    }
+
     /// How many inputs there are.
     pub(crate) fn inputs(&self) -> u64 {
         let mut sum = 0u64;

@@ -30,6 +30,8 @@ pub(crate) enum Happening {
     AddPartition,
     /// An end marker arrives, and completes nothing; or the coordinator completes a transaction.
     CompleteLate,
+    /// A partition gets a new leader, which has all its records.
+    Elect,
 }
 
 /// A word: what it says happens, and a number that says to whom.
@@ -64,6 +66,8 @@ pub struct Rates {
     /// The next message arrives, if it is an end marker, and its transaction isn't complete by that; or the coordinator completes
     /// one of which it awaits no end marker: 0.
     pub late_complete: Option<u16>,
+    /// A partition gets a new leader, which has all its records: 0.
+    pub elect: Option<u16>,
 }
 
 /// A rate of a thousandth, where that of every word is 32,000: a number of which today's rates are whole ones.
@@ -92,6 +96,8 @@ const ADD_PARTITION: u64 = 0;
 
 const LATE_COMPLETE: u64 = 0;
 
+const ELECT: u64 = 0;
+
 /// Of the words that say nothing of these rates, in 55: 6 feed, 30 work, 17 carry, 2 are an abandoned session's.
 const FEEDS: u64 = 6;
 
@@ -114,6 +120,7 @@ impl Rates {
         time_out: None,
         add_partition: None,
         late_complete: None,
+        elect: None,
     };
 }
 
@@ -149,6 +156,7 @@ impl Rates {
             + share(self.time_out, TIME_OUT)
             + share(self.add_partition, ADD_PARTITION)
             + share(self.late_complete, LATE_COMPLETE)
+            + share(self.elect, ELECT)
     }
 
     /// What a word says.
@@ -178,7 +186,7 @@ impl Rates {
     }
 
     /// What happens at these rates, each with its share.
-    fn shares(&self) -> [(Happening, u64); 10] {
+    fn shares(&self) -> [(Happening, u64); 11] {
         [
             (Happening::Lose, share(self.lose, LOSE)),
             (Happening::Repeat, share(self.repeat, REPEAT)),
@@ -202,6 +210,7 @@ impl Rates {
                 Happening::CompleteLate,
                 share(self.late_complete, LATE_COMPLETE),
             ),
+            (Happening::Elect, share(self.elect, ELECT)),
         ]
     }
 }

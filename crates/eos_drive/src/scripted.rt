@@ -8,6 +8,7 @@ use crate::actors::Actors;
 use crate::driver::Driver;
 use crate::history::History;
 use crate::mishap::Mishap;
+use crate::plan::remainder;
 use crate::script::Script;
 use crate::settings::Settings;
 use crate::settle::settle;
@@ -95,10 +96,14 @@ fn drive_words(
     ensures honest { settings.now.turning ≡ None → cluster.new.honest ≡ cluster.old.honest }
 {
     let mut actors = Actors::new(alloc, cluster, settings)?;
+    let unclean_from = unclean_from(script);
     let mut number = 0u64;
     for word in script.words() {
         turn_on(cluster, driver, settings, number)?;
         actors.take_word(cluster, driver, *word)?;
+        if number >= unclean_from {
+            actors.lose_leader(cluster, driver, u64::from(*word))?;
+        }
         number = number.saturating_add(1);
     }
     turn_on(cluster, driver, settings, number)?;
@@ -107,6 +112,17 @@ fn drive_words(
     }
     settle(&mut actors, cluster, driver)?;
     Ok(actors.plan.unmet())
+}
+
+/// The word from which on leaders are lost whose followers lack records: one of the later half, by the first word.
+fn unclean_from(script: &Script) -> u64 {
+    let words = script.words();
+    let half = words.len() / 2;
+    let choice = match words.first() {
+        Some(word) => u64::from(*word),
+        None => 0,
+    };
+    (half as u64).saturating_add(remainder(choice / 32, words.len().saturating_sub(half)) as u64)
 }
 
 /// Turns the switches on that are to be on after so many words.

@@ -16,6 +16,8 @@ pub struct Settings<'a> {
     pub links: bool,
     /// Whether the cluster's switches are set inside the script, or right after its last word.
     pub turning: Option<Turning>,
+    /// How many leaders are lost whose followers lack their last records.
+    pub unclean: u64,
     /// The mistakes that the applications make.
     pub mishaps: &'a [ChosenMishap],
     /// Whether the run ends after its last word, and what is left isn't processed.
@@ -37,6 +39,7 @@ impl<'a> Settings<'a> {
         ensures rates { result.rates ≡ today }
         ensures links { result.links ≡ false }
         ensures turning { result.turning ≡ None }
+        ensures unclean { result.unclean ≡ 0 }
         ensures mishaps { result.mishaps.now ≡ [] }
         ensures stops { result.stops ≡ false }
     {
@@ -44,6 +47,7 @@ impl<'a> Settings<'a> {
             rates: Rates::TODAY,
             links: false,
             turning: None,
+            unclean: 0,
             mishaps: &[],
             stops: false,
         }

@@ -14,7 +14,7 @@ use Rattle.eos_history_lines.proofs.OnceNamed.{InOrder, put_in_order, distinct_i
 use Rattle.eos_machine.specs.declared.config.Config.{Config}
 use Rattle.eos_machine.specs.declared.item.Claim.{Claim}
 use Rattle.eos_machine.specs.declared.event.Event.{Event}
-use Rattle.eos_machine.specs.declared.event.Event.TheVariants.{Feed, Start, Produce, Commit, End, Resume, Fetch, Members, BrokerRestart, CoordinatorRestart, Deliver, TimeOut, AddPartition, WriteMarker, Complete}
+use Rattle.eos_machine.specs.declared.event.Event.TheVariants.{Feed, Start, Produce, Commit, End, Resume, Fetch, Members, BrokerRestart, CoordinatorRestart, Deliver, TimeOut, AddPartition, WriteMarker, Complete, Elect}
 use Rattle.eos_machine.specs.declared.event.Reply.{Reply}
 use Rattle.eos_machine.specs.declared.event.Reply.TheVariants as replies
 use Rattle.eos_machine.specs.declared.switches.Switches.{Switches}
@@ -225,6 +225,7 @@ arguments_flat (TimeOut application) ms h = one _ application ms h
 arguments_flat (AddPartition session partition) ms h = put_flat 2 _ _ _ (partition_flat 2 partition) (one _ session ms h)
 arguments_flat (WriteMarker message) ms h = one _ message ms h
 arguments_flat (Complete application) ms h = one _ application ms h
+arguments_flat (Elect topic partition kept) ms h = one _ kept _ (one _ partition _ (put_flat 2 _ _ ms (topic_flat 1 topic) h))
 
 event_flat : (e : Event) (ms : JsonMembers) → FlatMembers 2 ms → FlatMembers 2 (with_event e ms)
 unfolding with_event

@@ -14,7 +14,7 @@ use Rattle.serde_json.specs.View.{items_of}
 use Rattle.eos_batch.specs.declared.marker.Kind.TheVariants as kinds
 use Rattle.eos_machine.specs.declared.item.Claim.{Claim}
 use Rattle.eos_machine.specs.declared.event.Event.{Event}
-use Rattle.eos_machine.specs.declared.event.Event.TheVariants.{Feed, Start, Produce, Commit, End, Resume, Fetch, Members, BrokerRestart, CoordinatorRestart, Deliver, TimeOut, AddPartition, WriteMarker, Complete}
+use Rattle.eos_machine.specs.declared.event.Event.TheVariants.{Feed, Start, Produce, Commit, End, Resume, Fetch, Members, BrokerRestart, CoordinatorRestart, Deliver, TimeOut, AddPartition, WriteMarker, Complete, Elect}
 use Rattle.eos_machine.specs.declared.event.Reply.{Reply}
 use Rattle.eos_machine.specs.declared.event.Reply.TheVariants as replies
 use Rattle.eos_machine.specs.declared.switches.Switches.{Switches}
@@ -55,6 +55,7 @@ record NoArgument (q : List ℕ) : Type 0 where
   topic : bytes_eq q (codes "topic") ≡ false
   group : bytes_eq q (codes "group") ≡ false
   message : bytes_eq q (codes "message") ≡ false
+  kept : bytes_eq q (codes "kept") ≡ false
 
 past_group : (q : List ℕ) (g : ℕ) (ms : JsonMembers) → bytes_eq q (codes "group") ≡ false → get_member q (with_group g ms) ≡ get_member q ms
 unfolding with_group
@@ -81,6 +82,7 @@ past_arguments q (TimeOut application) ms n = other q _ _ ms n.application
 past_arguments q (AddPartition session partition) ms n = other q _ _ _ n.partition ∙ other q _ _ ms n.session
 past_arguments q (WriteMarker message) ms n = other q _ _ ms n.message
 past_arguments q (Complete application) ms n = other q _ _ ms n.application
+past_arguments q (Elect topic partition kept) ms n = other q _ _ _ n.kept ∙ other q _ _ _ n.partition ∙ other q _ _ ms n.topic
 
 past_event : (q : List ℕ) (e : Event) (ms : JsonMembers) → NoArgument q → bytes_eq q (codes "event") ≡ false → get_member q (with_event e ms) ≡ get_member q ms
 unfolding with_event
@@ -220,6 +222,18 @@ event_back (AddPartition session partition) ms h none =
     ) refl
 event_back (WriteMarker message) ms h none = rw (get_member-put (codes "message") (count message) ms) refl
 event_back (Complete application) ms h none = rw (get_member-put (codes "application") (count application) ms) refl
+event_back (Elect topic partition kept) ms h none =
+    let one = put (codes "topic") (topic_value topic) ms in
+    let two = put (codes "partition") (count partition) one in
+    rw (
+      get_member-put (codes "kept") (count kept) two,
+      other (codes "partition") (codes "kept") (count kept) two refl,
+      get_member-put (codes "partition") (count partition) one,
+      other (codes "topic") (codes "kept") (count kept) two refl,
+      other (codes "topic") (codes "partition") (count partition) one refl,
+      get_member-put (codes "topic") (topic_value topic) ms,
+      h,
+    ) refl
 
 event_said : (e : Event) (ms : JsonMembers) → FitsEvent e → get_member (codes "group") ms ≡ None → event_in (object (with_event e ms)) ≡ Some e
 unfolding with_event
@@ -237,6 +251,7 @@ event_said e ms h none =
       topic = refl;
       group = refl;
       message = refl;
+      kept = refl;
     }) ∙ get_member-put (codes "event") (string (event_word e)) ms in
     ap (λ o. option_and_then (λ w. event_called w d) (option_and_then as_str o)) word ∙ event_back e base h (other (codes "group") (codes "event") (string (event_word e)) ms refl ∙ none)
 
@@ -379,20 +394,20 @@ deed_back (Asked event reply) ms h note set none group =
     let base = with_reply reply ms in
     let d = object (with_event event base) in
     let no_set = past_asked (codes "set") event reply ms (record {
-      argument = record { source = refl; application = refl; session = refl; partition = refl; claim = refl; offset = refl; kind = refl; topic = refl; group = refl; message = refl };
+      argument = record { source = refl; application = refl; session = refl; partition = refl; claim = refl; offset = refl; kind = refl; topic = refl; group = refl; message = refl; kept = refl };
       event = refl;
       reply = refl;
       value = refl;
     }) ∙ set in
     let no_note = past_asked (codes "note") event reply ms (record {
-      argument = record { source = refl; application = refl; session = refl; partition = refl; claim = refl; offset = refl; kind = refl; topic = refl; group = refl; message = refl };
+      argument = record { source = refl; application = refl; session = refl; partition = refl; claim = refl; offset = refl; kind = refl; topic = refl; group = refl; message = refl; kept = refl };
       event = refl;
       reply = refl;
       value = refl;
     }) ∙ note in
     let replied = reply_said reply d ms
-    (past_event (codes "reply") event base (record { source = refl; application = refl; session = refl; partition = refl; claim = refl; offset = refl; kind = refl; topic = refl; group = refl; message = refl }) refl)
-    (past_event (codes "value") event base (record { source = refl; application = refl; session = refl; partition = refl; claim = refl; offset = refl; kind = refl; topic = refl; group = refl; message = refl }) refl)
+    (past_event (codes "reply") event base (record { source = refl; application = refl; session = refl; partition = refl; claim = refl; offset = refl; kind = refl; topic = refl; group = refl; message = refl; kept = refl }) refl)
+    (past_event (codes "value") event base (record { source = refl; application = refl; session = refl; partition = refl; claim = refl; offset = refl; kind = refl; topic = refl; group = refl; message = refl; kept = refl }) refl)
     none in
     ap (λ o. deed_of o d) no_note ∙ ap (λ o. deed_from o d) no_set ∙ ap (λ o. option_and_then (λ r. option_map (λ e. Asked e r) (event_in d)) o) replied ∙ ap (λ o. option_map (λ e. Asked e reply) o) (event_said event base h (past_reply (codes "group") reply ms refl refl ∙ group))
 deed_back (Set switches) ms h note set none group =
@@ -412,7 +427,7 @@ line_back l h =
     let base = put (codes "number") (count l.number) no_members in
     let d = object (with_deed l.deed base) in
     let numbered = past_deed (codes "number") l.deed base (record {
-      argument = record { source = refl; application = refl; session = refl; partition = refl; claim = refl; offset = refl; kind = refl; topic = refl; group = refl; message = refl };
+      argument = record { source = refl; application = refl; session = refl; partition = refl; claim = refl; offset = refl; kind = refl; topic = refl; group = refl; message = refl; kept = refl };
       note = refl;
       mishap = refl;
       event = refl;
@@ -427,7 +442,7 @@ unfolding line_value tail_value with_tail
 row_back (rows.Line l) h =
     let base = put (codes "number") (count l.number) no_members in
     let no_total = past_deed (codes "events") l.deed base (record {
-      argument = record { source = refl; application = refl; session = refl; partition = refl; claim = refl; offset = refl; kind = refl; topic = refl; group = refl; message = refl };
+      argument = record { source = refl; application = refl; session = refl; partition = refl; claim = refl; offset = refl; kind = refl; topic = refl; group = refl; message = refl; kept = refl };
       note = refl;
       mishap = refl;
       event = refl;

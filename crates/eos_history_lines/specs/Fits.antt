@@ -4,7 +4,7 @@ use Rattle.std.specs.Int.{w32, w64}
 use Rattle.std.specs.Str.{is_utf8}
 use Rattle.eos_machine.specs.declared.item.Claim.{Claim}
 use Rattle.eos_machine.specs.declared.event.Event.{Event}
-use Rattle.eos_machine.specs.declared.event.Event.TheVariants.{Feed, Start, Produce, Commit, End, Resume, Fetch, Members, BrokerRestart, CoordinatorRestart, Deliver, TimeOut, AddPartition, WriteMarker, Complete}
+use Rattle.eos_machine.specs.declared.event.Event.TheVariants.{Feed, Start, Produce, Commit, End, Resume, Fetch, Members, BrokerRestart, CoordinatorRestart, Deliver, TimeOut, AddPartition, WriteMarker, Complete, Elect}
 use Rattle.eos_history_lines.specs.declared.line.Deed.{Deed}
 use Rattle.eos_history_lines.specs.declared.line.Deed.TheVariants.{Asked, Set, Noted}
 use Rattle.eos_history_lines.specs.declared.line.Note.{Note}
@@ -35,6 +35,7 @@ FitsEvent (TimeOut application) = ⊤
 FitsEvent (AddPartition session partition) = ⊤
 FitsEvent (WriteMarker message) = ⊤
 FitsEvent (Complete application) = ⊤
+FitsEvent (Elect topic partition kept) = is_utf8 topic ≡ true
 
 abbrev pub FitsNote : Note → Type 0
 FitsNote (notes.Lost message) = ⊤

@@ -8,7 +8,7 @@ use Rattle.serde_json.specs.View.{items_of}
 use Rattle.eos_machine.specs.declared.config.Config.{Config}
 use Rattle.eos_machine.specs.declared.item.Claim.{Claim}
 use Rattle.eos_machine.specs.declared.event.Event.{Event}
-use Rattle.eos_machine.specs.declared.event.Event.TheVariants.{Feed, Start, Produce, Commit, End, Resume, Fetch, Members, BrokerRestart, CoordinatorRestart, Deliver, TimeOut, AddPartition, WriteMarker, Complete}
+use Rattle.eos_machine.specs.declared.event.Event.TheVariants.{Feed, Start, Produce, Commit, End, Resume, Fetch, Members, BrokerRestart, CoordinatorRestart, Deliver, TimeOut, AddPartition, WriteMarker, Complete, Elect}
 use Rattle.eos_machine.specs.declared.event.Reply.{Reply}
 use Rattle.eos_machine.specs.declared.event.Reply.TheVariants as replies
 use Rattle.eos_machine.specs.declared.switches.Switches.{Switches}
@@ -92,6 +92,10 @@ count_or_null (Some n) = count n
 abbrev pub with_target : ℕ → Option ℕ → JsonMembers → JsonMembers
 with_target session partition ms = put (codes "partition") (count_or_null partition) (put (codes "session") (count session) ms)
 
+-- a partition by its topic and its number there
+abbrev pub with_partition : List ℕ → ℕ → JsonMembers → JsonMembers
+with_partition topic partition ms = put (codes "partition") (count partition) (put (codes "topic") (topic_value topic) ms)
+
 -- the first group isn't named
 unfoldable pub with_group : ℕ → JsonMembers → JsonMembers
 with_group group ms = if group == 0 then ms else put (codes "group") (count group) ms
@@ -107,13 +111,14 @@ with_arguments (End session kind) ms = put (codes "kind") (string (kind_word kin
 with_arguments (Resume session) ms = put (codes "session") (count session) ms
 with_arguments (Fetch session source) ms = put (codes "source") (count source) (put (codes "session") (count session) ms)
 with_arguments (Members group) ms = with_group group ms
-with_arguments (BrokerRestart topic partition) ms = put (codes "partition") (count partition) (put (codes "topic") (topic_value topic) ms)
+with_arguments (BrokerRestart topic partition) ms = with_partition topic partition ms
 with_arguments CoordinatorRestart ms = ms
 with_arguments (Deliver message) ms = put (codes "message") (count message) ms
 with_arguments (TimeOut application) ms = put (codes "application") (count application) ms
 with_arguments (AddPartition session partition) ms = with_target session partition ms
 with_arguments (WriteMarker message) ms = put (codes "message") (count message) ms
 with_arguments (Complete application) ms = put (codes "application") (count application) ms
+with_arguments (Elect topic partition kept) ms = put (codes "kept") (count kept) (with_partition topic partition ms)
 
 unfoldable pub with_event : Event → JsonMembers → JsonMembers
 with_event event ms = with_arguments event (put (codes "event") (string (event_word event)) ms)

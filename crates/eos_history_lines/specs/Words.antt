@@ -5,7 +5,7 @@ use Rattle.eos_batch.specs.declared.marker.Kind.TheVariants as kinds
 use Rattle.eos_history_lines.specs.declared.line.Note.{Note}
 use Rattle.eos_history_lines.specs.declared.line.Note.TheVariants as notes
 use Rattle.eos_machine.specs.declared.event.Event.{Event}
-use Rattle.eos_machine.specs.declared.event.Event.TheVariants.{Feed, Start, Produce, Commit, End, Resume, Fetch, Members, BrokerRestart, CoordinatorRestart, Deliver, TimeOut, AddPartition, WriteMarker, Complete}
+use Rattle.eos_machine.specs.declared.event.Event.TheVariants.{Feed, Start, Produce, Commit, End, Resume, Fetch, Members, BrokerRestart, CoordinatorRestart, Deliver, TimeOut, AddPartition, WriteMarker, Complete, Elect}
 use Rattle.eos_machine.specs.declared.event.Reply.{Reply}
 use Rattle.eos_machine.specs.declared.event.Reply.TheVariants.{Done, Fenced, OutOfOrder, DuplicateKept, WrongState, Busy, StaleGeneration, EpochsSpent, Unknown, OutOfMemory, Full}
 
@@ -34,6 +34,7 @@ event_word (TimeOut application) = codes "time-out"
 event_word (AddPartition session partition) = codes "add-partition"
 event_word (WriteMarker message) = codes "write-marker"
 event_word (Complete application) = codes "complete"
+event_word (Elect topic partition kept) = codes "elect"
 
 abbrev pub reply_word : Reply → List ℕ
 reply_word (Done number) = codes "done"

@@ -5,10 +5,11 @@ ghost use Rattle.serde_json.specs.Data.{put as with_member};
 ghost use Rattle.serde_json.specs.View.{view};
 ghost use Rattle.eos_history_lines.specs.steps.Held.{held};
 ghost use Rattle.eos_history_lines.specs.Lines.{count, with_claim, claimed, offset_or_null, count_or_null, with_group, with_target, with_arguments, with_event};
-ghost use Rattle.eos_history_lines.specs.steps.Reading.{event_in, plain_event, event_of_session, feed_in, start_in, deliver_in, members_in, time_out_in, write_marker_in, complete_in, restart_in, produce_in, commit_in, end_in, fetch_in, claim_within, claim_in, offset_within, add_in, partition_within};
+ghost use Rattle.eos_history_lines.specs.steps.Reading.{event_in, plain_event, event_of_session, feed_in, start_in, deliver_in, members_in, time_out_in, write_marker_in, complete_in, produce_in, commit_in, end_in, fetch_in, claim_within, claim_in, offset_within, add_in, partition_within};
 
 use crate::members::{count_in, integer_in, kind_called, size_in, small_in, text_in};
 use crate::object::Object;
+use crate::of_partition::{put_election, put_partition, read_election, read_restart};
 use crate::words::{event_word, kind_word};
 use bytes::Bytes;
 use eos_machine::{Claim, Event};
@@ -53,10 +54,12 @@ fn put_arguments(alloc: Global, out: &mut Object, event: &Event) -> Result<(), A
         }
         Event::Resume { session } => out.put_size("session", *session),
         Event::Fetch { session, source } => put_of_session(out, *session, "source", *source),
-        Event::BrokerRestart { topic, partition } => {
-            out.put_topic("topic", topic.as_slice())?;
-            out.put_size("partition", *partition)
-        }
+        Event::BrokerRestart { topic, partition } => put_partition(out, topic, *partition),
+        Event::Elect {
+            topic,
+            partition,
+            kept,
+        } => put_election(out, topic, *partition, *kept),
         Event::Members { group } => put_group(out, *group),
         Event::CoordinatorRestart => Ok(()),
         Event::Deliver { message } => out.put_count("message", *message),
@@ -154,22 +157,11 @@ pub(crate) fn read_event(alloc: Global, value: &Value) -> Result<Option<Event>, 
         read_produce(alloc, value)
     } else if word == "broker-restart" {
         read_restart(alloc, value)
+    } else if word == "elect" {
+        read_election(alloc, value)
     } else {
         Ok(read_plain_event(word, value))
     }
-}
-
-fn read_restart(alloc: Global, value: &Value) -> Result<Option<Event>, AllocError>
-    ensures { IfOk result (λ event. event ≡ restart_in (view value.now)) }
-{
-    let Some(topic) = text_in(value, "topic") else {
-        return Ok(None);
-    };
-    let Some(partition) = size_in(value, "partition") else {
-        return Ok(None);
-    };
-    let topic = Bytes::copy_from_slice(alloc, topic.as_bytes())?;
-    Ok(Some(Event::BrokerRestart { topic, partition }))
 }
 
 /// An event that takes no memory.

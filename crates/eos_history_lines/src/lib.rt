@@ -22,6 +22,7 @@ mod mistake;
 mod names;
 mod notes;
 mod object;
+mod of_partition;
 mod reader;
 mod replies;
 mod rows;

@@ -130,6 +130,11 @@ fn arguments_of(word: &str) -> Option<&'static [(&'static str, Wanted)]> {
         "fetch" => &[("session", Wanted::Count), ("source", Wanted::Count)],
         "add-partition" => &[("session", Wanted::Count), ("partition", Wanted::Partition)],
         "broker-restart" => &[("topic", Wanted::Text), ("partition", Wanted::Count)],
+        "elect" => &[
+            ("topic", Wanted::Text),
+            ("partition", Wanted::Count),
+            ("kept", Wanted::Count),
+        ],
         "deliver" | "write-marker" => &[("message", Wanted::Count)],
         "members" | "coordinator-restart" => &[],
         _ => return None,

@@ -45,6 +45,7 @@ pub(crate) fn event_word(event: &Event) -> &'static str
         Event::AddPartition { .. } => "add-partition",
         Event::WriteMarker { .. } => "write-marker",
         Event::Complete { .. } => "complete",
+        Event::Elect { .. } => "elect",
     }
 }
 

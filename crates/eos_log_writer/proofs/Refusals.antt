@@ -1,5 +1,5 @@
 -- What is written of a cluster is refused for want of memory alone.
-use Rattle.std.proofs.Common.{◌≡◌, ◌≢◌, Bool, true, false, pos, ℕ, zero, suc, ◌+◌, ◌-◌, ◌*◌, ◌/◌, ◌%◌, ◌^◌, ◌<◌, ◌≤◌, min, ℤ, List, [], ◌∷◌, ◌++◌, Result, Ok, Err, inl, inr, refl, sym, ap, subst, ◌∙◌, arith, take, drop, length, map, pos}
+use Rattle.std.proofs.Common.{◌≡◌, Bool, true, false, pos, ℕ, zero, suc, ◌+◌, ◌-◌, ◌*◌, ◌/◌, ◌^◌, ◌<◌, ◌≤◌, List, [], ◌++◌, Result, Ok, Err, inl, inr, refl, sym, ap, subst, ◌∙◌, arith, take, drop, length, map, pos}
 use Rattle.std.specs.Prelude.{IsOk, nat_lt, if◌then◌else◌}
 use Rattle.std.specs.List.{All, range_with_len}
 use Rattle.std.proofs.Math.Nat.{div-add-mod, mul_comm, mul-le-mul_right}
@@ -12,11 +12,6 @@ use Rattle.eos_wire.specs.declared.form.Form.TheVariants.{Plain}
 use Rattle.eos_wire.specs.FieldWriting.{string_text}
 use Rattle.eos_offsets.specs.declared.key.OffsetKey.{OffsetKey}
 use Rattle.eos_offsets.specs.Writing as offsets
-use Rattle.eos_txnlog.specs.declared.status.Status.{Status as TxnStatus}
-use Rattle.eos_txnlog.specs.declared.value.TxnValue.{TxnValue}
-use Rattle.eos_txnlog.specs.declared.partitions.TopicPartitions.{TopicPartitions}
-use Rattle.eos_machine.specs.declared.item.Entry.{Entry}
-use Rattle.eos_machine.specs.Rest.{producer_id, status_of, by_topic, value_of}
 use Rattle.eos_log_writer.proofs.Adding.{range_step}
 use Rattle.eos_base.specs.Fallible.{◌>>=◌}
 use Rattle.eos_base.specs.Records.{Settles}
@@ -36,7 +31,7 @@ use Rattle.eos_machine.specs.declared.item.Item.TheVariants.{Fed, State, Output,
 use Rattle.eos_machine.specs.LogIndexes.{IsConfig, application_count, input_topic, output_topic}
 use Rattle.eos_machine.proofs.Written.{few_applications}
 use Rattle.eos_machine.specs.Batches.{group, second_group, source_key}
-use Rattle.eos_machine.specs.Evidences.{segment_count, segment_at, adding}
+use Rattle.eos_machine.specs.Evidences.{segment_count, adding}
 use Rattle.eos_machine.specs.Fitting.{IsFit}
 use Rattle.eos_log_writer.specs.steps.Writers.{HasWriter}
 use Rattle.eos_machine.proofs.SegmentsFit.{all_drop}

@@ -1,5 +1,5 @@
 -- The bytes of a batch that is written.
-use Rattle.std.proofs.Common.{◌≡◌, ℕ, ◌+◌, ◌-◌, zero, suc, true, false, ◌⊎◌, map, List, [], ◌∷◌, ◌++◌, Result, Ok, Err, inl, inr, ap, sym, subst, refl, ◌∙◌, append_assoc, arith, take, drop, length, slice_index_or, ◌<◌, ◌≤◌}
+use Rattle.std.proofs.Common.{◌≡◌, ℕ, pos, ◌+◌, ◌-◌, ◌^◌, zero, suc, true, false, map, List, [], ◌∷◌, ◌++◌, Result, Ok, Err, inl, inr, ap, sym, subst, refl, ◌∙◌, append_assoc, arith, take, drop, length, slice_index_or, ◌<◌, ◌≤◌}
 use Rattle.std.specs.List.{All}
 use Rattle.std.proofs.lemmas.List.Elements.{All-cons, All-head, All-tail, All-take}
 use Rattle.std.proofs.Math.ListN.{drop_of_length-le}
@@ -21,7 +21,13 @@ use Rattle.eos_machine.specs.Grouping.{goes_on, joining}
 use Rattle.eos_machine.specs.steps.Joined.{AreJoined}
 use Rattle.eos_machine.proofs.Grouping.{are_joined, joining_few, joining_within}
 use Rattle.eos_machine.proofs.SegmentsFit.{all_drop, take_few}
-use Rattle.eos_machine.specs.Batches.{batch_of, behind, batches_after, batches_from, texts_of, AreTexts}
+use Rattle.eos_machine.specs.declared.state.Election.{Election}
+use Rattle.eos_machine.specs.Elections.{leader_epoch}
+use Rattle.eos_machine.specs.Batches.{batch_of, behind, batches_after, batches_from, led, texts_of, AreTexts}
+use Rattle.eos_machine.proofs.BatchTests.{batch_tested}
+use Rattle.eos_batch.proofs.EncodingTests.{length-batch_text_of}
+use Rattle.eos_log_writer.specs.declared.leaders.Base.{Base}
+use Rattle.eos_log_writer.specs.steps.Writers.{based}
 
 or_none : Result (List ℕ) BatchFault → List ℕ
 or_none (Ok t) = t
@@ -41,6 +47,12 @@ written_text b t h = at (tested b) h
 pub is_written : (b d : Batch) (t : List ℕ) → b ≡ d → t ≡ batch_text_of b → IsShortest IsBatchText t b → IsBatchText (batch_text_of d) d
 is_written b d t e f s = subst (λ k. IsBatchText (batch_text_of k) k) e (subst (λ u. IsBatchText u b) f s.0)
 
+pub based_tested : (c : Config) (b : Base) (x : Item) (ys : List Item) → IsConfig c → b.offset + length ys < 2 ^ 63 → length ys < 1000 → AreJoined x ys → All (IsFit c) (x ∷ ys) → tested (based c b x ys) ≡ Ok tt
+unfolding tested
+based_tested c b x ys i l m j f =
+    let same : length (batch_text_of (based c b x ys)) ≡ length (batch_text_of (batch_of c b.offset x ys)) = length-batch_text_of (based c b x ys) ∙ sym (length-batch_text_of (batch_of c b.offset x ys)) in
+    rw same (batch_tested c b.offset x ys i l m j f)
+
 -- ---- batch by batch
 
 -- behind a batch the items that don't stand in it are left
@@ -54,19 +66,19 @@ batch_first c o p n x xs e f =
     let k : batches_after c n (o + 1) xs ≡ batches_from c p (drop n xs) = skipped c n (o + 1) xs ∙ ap (λ q. batches_from c q (drop n xs)) (sym f) in
     subst (λ m. batch_of c o x (take m xs) ∷ batches_after c m (o + 1) xs ≡ batch_of c o x (take n xs) ∷ batches_from c p (drop n xs)) e (ap (λ bs. batch_of c o x (take n xs) ∷ bs) k)
 
-pub text_more : (c : Config) (o p n : ℕ) (x : Item) (xs : List Item) (all out new t : List ℕ) → n ≡ behind c x xs → p ≡ o + 1 + n → all ≡ out ++ texts_of (batches_from c o (x ∷ xs)) → t ≡ batch_text_of (batch_of c o x (take n xs)) → new ≡ out ++ t
-    → all ≡ new ++ texts_of (batches_from c p (drop n xs))
-text_more c o p n x xs all out new t e f h is next =
-    let more : List ℕ = texts_of (batches_from c p (drop n xs)) in
-    h ∙ (ap (λ bs. out ++ texts_of bs) (batch_first c o p n x xs e f) ∙ (ap (λ u. out ++ (u ++ more)) (sym is) ∙ (sym (append_assoc out t more) ∙ ap (λ u. u ++ more) (sym next))))
+pub text_more : (c : Config) (g : Batch → Batch) (o p n : ℕ) (x : Item) (xs : List Item) (all out new t : List ℕ) → n ≡ behind c x xs → p ≡ o + 1 + n → all ≡ out ++ texts_of (map g (batches_from c o (x ∷ xs))) → t ≡ batch_text_of (g (batch_of c o x (take n xs))) → new ≡ out ++ t
+    → all ≡ new ++ texts_of (map g (batches_from c p (drop n xs)))
+text_more c g o p n x xs all out new t e f h is next =
+    let more : List ℕ = texts_of (map g (batches_from c p (drop n xs))) in
+    h ∙ (ap (λ bs. out ++ texts_of (map g bs)) (batch_first c o p n x xs e f) ∙ (ap (λ u. out ++ (u ++ more)) (sym is) ∙ (sym (append_assoc out t more) ∙ ap (λ u. u ++ more) (sym next))))
 
-pub one_written : (c : Config) (o p n : ℕ) (x : Item) (xs : List Item) → n ≡ behind c x xs → p ≡ o + 1 + n → IsBatchText (batch_text_of (batch_of c o x (take n xs))) (batch_of c o x (take n xs)) → AreTexts (batches_from c p (drop n xs)) → AreTexts (batches_from c o (x ∷ xs))
-one_written c o p n x xs e f h k = subst AreTexts (sym (batch_first c o p n x xs e f)) (h, k)
+pub one_written : (c : Config) (g : Batch → Batch) (o p n : ℕ) (x : Item) (xs : List Item) → n ≡ behind c x xs → p ≡ o + 1 + n → IsBatchText (batch_text_of (g (batch_of c o x (take n xs)))) (g (batch_of c o x (take n xs))) → AreTexts (map g (batches_from c p (drop n xs))) → AreTexts (map g (batches_from c o (x ∷ xs)))
+one_written c g o p n x xs e f h k = subst (λ bs. AreTexts (map g bs)) (sym (batch_first c o p n x xs e f)) (h, k)
 
--- what is written of items, and what is left of them
-abbrev pub IsLeft : Config → ℕ → List Item → List ℕ → ℕ → List Item → Type 0
-IsLeft c o items out base rest =
-    (texts_of (batches_from c o items) ≡ out ++ texts_of (batches_from c base rest)) × (AreTexts (batches_from c base rest) → AreTexts (batches_from c o items))
+-- what is written of items, and what is left of them; g gives each batch its leader epoch
+abbrev pub IsLeft : Config → (Batch → Batch) → ℕ → List Item → List ℕ → ℕ → List Item → Type 0
+IsLeft c g o items out base rest =
+    (texts_of (map g (batches_from c o items)) ≡ out ++ texts_of (map g (batches_from c base rest))) × (AreTexts (map g (batches_from c base rest)) → AreTexts (map g (batches_from c o items)))
     × (base + length rest ≡ o + length items) × All (IsFit c) rest
 
 -- an item, those that stand behind it, and the others
@@ -91,18 +103,22 @@ cut_fits c rest x n standing others h a =
     let b = subst (All (IsFit c)) h.is a in
     All-cons (IsFit c) x standing (All-head (IsFit c) x h.more b) (subst (All (IsFit c)) (sym h.front) (All-take (IsFit c) n h.more (All-tail (IsFit c) x h.more b)))
 
-pub one_left : (c : Config) (o base n : ℕ) (x : Item) (rest standing others items : List Item) (out new t : List ℕ) → IsCut c rest x n standing others → IsLeft c o items out base rest
-    → t ≡ batch_text_of (batch_of c base x standing) → IsBatchText (batch_text_of (batch_of c base x standing)) (batch_of c base x standing) → new ≡ out ++ t → IsLeft c o items new (base + (1 + n)) others
-one_left c o base n x rest standing others items out new t h left is written next =
+pub one_left : (c : Config) (p : ℕ) (es : List Election) (o base n : ℕ) (b : Base) (x : Item) (rest standing others items : List Item) (out new t : List ℕ) → IsCut c rest x n standing others → IsLeft c (led p es) o items out base rest
+    → b ≡ record { offset = base; leader_epoch = leader_epoch p (pos base) es }
+    → t ≡ batch_text_of (based c b x standing) → IsBatchText (batch_text_of (based c b x standing)) (based c b x standing) → new ≡ out ++ t → IsLeft c (led p es) o items new (base + (1 + n)) others
+one_left c q es o base n b x rest standing others items out new t h left at is0 written0 next =
+    let g : Batch → Batch = led q es in
+    let is : t ≡ batch_text_of (g (batch_of c base x standing)) = is0 ∙ ap (λ (k : Base). batch_text_of (based c k x standing)) at in
+    let written = subst (λ (k : Base). IsBatchText (batch_text_of (based c k x standing)) (based c k x standing)) at written0 in
     let more : List Item = h.more in
     let p : base + (1 + n) ≡ base + 1 + n = omega arith in
     let f = subst (All (IsFit c)) h.is left.3 in
     let w = joining_within (c.batch_records - 1) x more in
     let d = length-drop n more in
     let l = ap length h.is in
-    subst (IsLeft c o items new (base + (1 + n))) (sym h.back) (
-      text_more c base (base + (1 + n)) n x more (texts_of (batches_from c o items)) out new t h.count p (left.0 ∙ ap (λ xs. out ++ texts_of (batches_from c base xs)) h.is) (is ∙ ap (λ ys. batch_text_of (batch_of c base x ys)) h.front) next,
-      λ k. left.1 (subst (λ xs. AreTexts (batches_from c base xs)) (sym h.is) (one_written c base (base + (1 + n)) n x more h.count p (subst (λ ys. IsBatchText (batch_text_of (batch_of c base x ys)) (batch_of c base x ys)) h.front written) k)),
+    subst (IsLeft c g o items new (base + (1 + n))) (sym h.back) (
+      text_more c g base (base + (1 + n)) n x more (texts_of (map g (batches_from c o items))) out new t h.count p (left.0 ∙ ap (λ xs. out ++ texts_of (map g (batches_from c base xs))) h.is) (is ∙ ap (λ ys. batch_text_of (g (batch_of c base x ys))) h.front) next,
+      λ k. left.1 (subst (λ xs. AreTexts (map g (batches_from c base xs))) (sym h.is) (one_written c g base (base + (1 + n)) n x more h.count p (subst (λ ys. IsBatchText (batch_text_of (g (batch_of c base x ys))) (g (batch_of c base x ys))) h.front written) k)),
       omega (arith, left.2, h.count, w, d, l),
       all_drop (IsFit c) n more (All-tail (IsFit c) x more f),
     )

@@ -7,11 +7,12 @@ ghost use Rattle.eos_batch.specs.declared.fault.BatchFault.{BatchFault};
 ghost use Rattle.std.specs.List.{All};
 ghost use Rattle.eos_machine.specs.Fitting.{AreAllThere, IsFit};
 ghost use Rattle.eos_machine.specs.steps.Joined.{AreJoined};
-ghost use Rattle.eos_log_writer.specs.steps.Writers.{HasWriter};
-ghost use Rattle.eos_machine.specs.Batches.{record_of, fed_record, state_record, output_record, offset_record, marker_record, event_of, item_writer, item_record, record_after, last_or, batch_of, batches_from, texts_of, AreTexts};
+ghost use Rattle.eos_log_writer.specs.steps.Writers.{HasWriter, based};
+ghost use Rattle.eos_machine.specs.Batches.{record_of, fed_record, state_record, output_record, offset_record, marker_record, event_of, item_writer, item_record, record_after, last_or, batches_from, led, texts_of, AreTexts};
 ghost use Rattle.eos_batch.specs.Text.{IsBatchText};
 
 use crate::joining::joining;
+use crate::leaders::{Base, Leaders, base_at};
 use crate::values;
 use crate::writer::{self, as_i64, sequence_as_i32};
 use bytes::Bytes;
@@ -209,25 +210,25 @@ fn last_or<'a>(first: &'a Item, behind: &'a [Item]) -> &'a Item
     }
 }
 
-/// The batch at an offset of an item and those that stand behind it.
+/// The batch that begins here, of an item and those that stand behind it.
 #[tactic(auto, using(crate::proofs::Refusals::fit_writer, eos_machine::proofs::FittingTests::fit_event))]
 fn batch_of(
     alloc: Global,
     config: Config,
-    offset: usize,
+    base: Base,
     first: &Item,
     behind: &[Item],
 ) -> Result<Batch, AllocError>
     requires config { IsConfig config }
-    requires offset { offset < 2 ^ 63 }
+    requires offset { base.offset < 2 ^ 63 }
     requires fits { All (IsFit config) (first.now ∷ behind.now) }
-    ensures { IfOk result (λ b. b ≡ batch_of config offset first.now behind.now) }
+    ensures { IfOk result (λ b. b ≡ based config base first.now behind.now) }
 {
     let records = records_of(alloc, config, first, behind)?;
     let writer = item_writer(first);
     Ok(Batch {
-        base_offset: as_i64(offset as u64),
-        leader_epoch: 0,
+        base_offset: as_i64(base.offset as u64),
+        leader_epoch: i32::from(base.leader_epoch),
         attributes: writer.attributes,
         base_timestamp: as_i64(event_of(first)),
         max_timestamp: as_i64(event_of(last_or(first, behind))),
@@ -250,37 +251,38 @@ fn of_memory(_fault: BatchFault) -> AllocError
 fn batch_text(
     alloc: Global,
     config: Config,
-    offset: usize,
+    base: Base,
     first: &Item,
     behind: &[Item],
 ) -> Result<Bytes, AllocError>
     requires config { IsConfig config }
-    requires offset { offset + length behind.now < 2 ^ 63 }
+    requires offset { base.offset + length behind.now < 2 ^ 63 }
     requires few { length behind.now < 1000 }
     requires joined { AreJoined first.now behind.now }
     requires fits { All (IsFit config) (first.now ∷ behind.now) }
-    ensures text { IfOk result (λ t. t ≡ batch_text_of (batch_of config offset first.now behind.now)) }
-    ensures written { OnOk result (IsBatchText (batch_text_of (batch_of config offset first.now behind.now)) (batch_of config offset first.now behind.now)) }
+    ensures text { IfOk result (λ t. t ≡ batch_text_of (based config base first.now behind.now)) }
+    ensures written { OnOk result (IsBatchText (batch_text_of (based config base first.now behind.now)) (based config base first.now behind.now)) }
 {
-    let batch = batch_of(alloc, config, offset, first, behind)?;
+    let batch = batch_of(alloc, config, base, first, behind)?;
     match encode_batch(alloc, &batch) {
         Ok(text) => Ok(text),
         Err(fault) => Err(of_memory(fault)),
     }
 }
 
-/// The bytes of items one after the other, the first of them at this offset.
+/// The bytes of items one after the other, the first of them at this offset, under these leaders.
 pub(crate) fn items_text(
     alloc: Global,
     config: Config,
+    leaders: Leaders<'_>,
     offset: usize,
     items: &[Item],
 ) -> Result<Bytes, AllocError>
     requires config { IsConfig config }
     requires offset { offset + length items.now < 2 ^ 63 }
     requires fits { All (IsFit config) items.now }
-    ensures text { IfOk result (λ t. t ≡ texts_of (batches_from config offset items.now)) }
-    ensures written { OnOk result (AreTexts (batches_from config offset items.now)) }
+    ensures text { IfOk result (λ t. t ≡ texts_of (map (led leaders.entry.place leaders.entry.elections.now) (batches_from config offset items.now))) }
+    ensures written { OnOk result (AreTexts (map (led leaders.entry.place leaders.entry.elections.now) (batches_from config offset items.now))) }
 {
     let mut out = Vec::new(alloc);
     let mut base = offset;
@@ -288,7 +290,7 @@ pub(crate) fn items_text(
     while let Some((first, more)) = rest.split_first() {
         let count = joining(config.batch_records - 1, first, more);
         let (behind, others) = more.split_at(count);
-        let text = batch_text(alloc, config, base, first, behind)?;
+        let text = batch_text(alloc, config, base_at(leaders, base), first, behind)?;
         out.extend_from_slice(text.as_slice())?;
         base += 1 + count;
         rest = others;

@@ -12,6 +12,7 @@ ghost use Rattle.eos_machine.specs.Evidences.{application, second_application, g
 
 use crate::batches::items_text;
 use crate::fitting::are_fit;
+use crate::leaders::Leaders;
 use crate::log_names::{log_count, number_of, topic_of};
 use crate::values;
 use crate::writer::{as_i32, as_i64};
@@ -46,27 +47,27 @@ fn taken_from(items: &[Item], from: usize, count: usize) -> &[Item]
     }
 }
 
-/// The i-th segment of the log at a place.
+/// The i-th segment of the log at the leaders' place.
 fn segment_at(
     alloc: Global,
     config: Config,
-    place: usize,
+    leaders: Leaders<'_>,
     log: &[Item],
     i: usize,
 ) -> Result<Segment, AllocError>
     requires config { IsConfig config }
-    requires place { place < log_count config }
+    requires place { leaders.place < log_count config }
     requires begins { i * config.segment_records < length log.now }
     requires fits { All (IsFit config) log.now }
-    ensures segment { IfOk result (λ s. s ≡ segment_at config place log.now i) }
-    ensures written { OnOk result (AreTexts (batches_at config log.now i)) }
+    ensures segment { IfOk result (λ s. s ≡ segment_at config leaders.entry.place leaders.entry.elections.now log.now i) }
+    ensures written { OnOk result (AreTexts (batches_at config leaders.entry.place leaders.entry.elections.now log.now i)) }
 {
     let base = i * config.segment_records;
     let items = taken_from(log, base, config.segment_records);
-    let bytes = items_text(alloc, config, base, items)?;
+    let bytes = items_text(alloc, config, leaders, base, items)?;
     Ok(Segment {
-        topic: topic_of(config, place),
-        partition: as_i32(number_of(config, place)),
+        topic: topic_of(config, leaders.place),
+        partition: as_i32(number_of(config, leaders.place)),
         base: as_i64(base as u64),
         bytes,
     })
@@ -106,7 +107,7 @@ fn add(builder: &mut EvidenceBuilder, segment: Segment) -> Result<(), LogFault>
     }
 }
 
-/// Adds the segments of the log at a place.
+/// Adds the segments of the log at the leaders' place, each batch in the leader epoch of its base offset.
 ///
 /// # Errors
 /// `Refused` where the place, or something in the log, doesn't fit its field, or where the evidence refuses a segment: never of a
@@ -115,15 +116,15 @@ pub fn add_log(
     alloc: Global,
     builder: &mut EvidenceBuilder,
     config: Config,
-    place: usize,
+    leaders: Leaders<'_>,
     log: &[Item],
 ) -> Result<(), LogFault>
     requires { IsConfig config }
-    ensures added { OnOk result (adding builder.old (log_segments config place log.now) ≡ Ok builder.new) }
-    ensures written { OnOk result (HaveTexts config log.now) }
-    ensures only { place < log_count config → All (IsFit config) log.now → IsOk (adding builder.old (log_segments config place log.now)) → result ≢ Err LogFault.Refused }
+    ensures added { OnOk result (adding builder.old (log_segments config leaders.entry.place leaders.entry.elections.now log.now) ≡ Ok builder.new) }
+    ensures written { OnOk result (HaveTexts config leaders.entry.place leaders.entry.elections.now log.now) }
+    ensures only { leaders.entry.place < log_count config → All (IsFit config) log.now → IsOk (adding builder.old (log_segments config leaders.entry.place leaders.entry.elections.now log.now)) → result ≢ Err LogFault.Refused }
 {
-    if place >= log_count(config) {
+    if leaders.place >= log_count(config) {
         return Err(LogFault::Refused);
     }
     if !are_fit(config, log) {
@@ -131,7 +132,7 @@ pub fn add_log(
     }
     let count = segment_count(config, log.len());
     for i in 0..count {
-        let Ok(segment) = segment_at(alloc, config, place, log, i) else {
+        let Ok(segment) = segment_at(alloc, config, leaders, log, i) else {
             return Err(LogFault::OutOfMemory);
         };
         add(builder, segment)?;

@@ -1,8 +1,8 @@
 -- Each event keeps the numbers of a cluster within their bounds.
-use Rattle.std.proofs.Common.{◌≡◌, ℕ, ℤ, pos, negsuc, zero, suc, ◌+◌, ◌-◌, ◌≤◌, ◌==◌, ◌&&◌, not, Bool, true, false, List, [], ◌∷◌, ◌++◌, length, map, replicate, Option, Some, None, refl, arith, slice_index_or, slice_set, if◌then◌else◌}
-use Rattle.std.specs.Prelude.{slice_get, ⊤}
+use Rattle.std.proofs.Common.{◌≡◌, ℕ, ℤ, pos, negsuc, zero, suc, ◌+◌, ◌-◌, ◌^◌, ◌≤◌, ◌<◌, ◌==◌, ◌&&◌, not, Bool, true, false, List, [], ◌∷◌, ◌++◌, length, map, replicate, Option, Some, None, refl, arith, slice_index_or, slice_set, take, if◌then◌else◌}
+use Rattle.std.specs.Prelude.{slice_get, nat_lt, ⊤}
 use Rattle.std.specs.List.{All, flat_map, range_with_len, cons_option}
-use Rattle.std.proofs.lemmas.List.Elements.{All-nil, All-cons, All-head, All-tail, All-weaker, All-push, All-append, All-set}
+use Rattle.std.proofs.lemmas.List.Elements.{All-nil, All-cons, All-head, All-tail, All-weaker, All-push, All-append, All-set, All-take}
 use Rattle.std.proofs.lemmas.Bool.{and_parts, or_parts, eqb-true}
 use Rattle.eos_batch.specs.declared.marker.Kind.{Kind}
 use Rattle.eos_batch.specs.declared.marker.Kind.TheVariants.{Abort}
@@ -18,9 +18,10 @@ use Rattle.eos_machine.specs.Answers.{Answer, when, Done, Fenced}
 use Rattle.eos_machine.specs.Sessions.{last_epoch, new_session, sequence_of, after_output, after_offset, after_end, after_resume, produce, commit_offset, commit, end_session, resume_ended, resume, fetch}
 use Rattle.eos_machine.specs.Rules.{marker_epoch, marker_of}
 use Rattle.eos_machine.specs.Deliveries.{with_partition, appended, accept, fenced, marked, ticked_off, ticked, deliver, write_marker, complete_prepared}
+use Rattle.eos_machine.specs.Elections.{electable_at, elect, epoch_at, election_of}
 use Rattle.eos_machine.specs.Machine.{start_session, start, reread, due_again, queued_again, happens_under, add_partition, counted, step_under, step, world_under, world_after}
 use Rattle.eos_machine.specs.Bounds.{Limit, IsWithin, IsSent, IsSafe, Bounded}
-use Rattle.eos_machine.proofs.Brokers.{not_lt}
+use Rattle.eos_machine.proofs.Brokers.{not_lt, is_lt}
 
 -- ---- one event more
 
@@ -50,6 +51,7 @@ bounded_more n w b = record {
   messages = All-weaker (IsSent n) (IsSent (n + 1)) (message_more n) w.messages b.messages;
   sessions = All-weaker (IsSafe n) (IsSafe (n + 1)) (session_more n) w.sessions b.sessions;
   generations = sequences_more n w.generations b.generations;
+  elections = b.elections;
 }
 
 -- ---- parts
@@ -105,6 +107,7 @@ bounded_item n w p x b h = record {
   messages = b.messages;
   sessions = b.sessions;
   generations = b.generations;
+  elections = b.elections;
 }
 
 bounded_coord : (n : ℕ) (w : World) (a : ℕ) (s : Coordinator) → Bounded n w → Limit s.status s.epoch → Bounded n (with_coord w a s)
@@ -114,6 +117,7 @@ bounded_coord n w a s b h = record {
   messages = b.messages;
   sessions = b.sessions;
   generations = b.generations;
+  elections = b.elections;
 }
 
 bounded_written : (n : ℕ) (u : Switches) (c : Config) (w : World) (a : ℕ) (x : Entry) → Bounded n w → Limit x.status x.epoch → Bounded n (written u c w a x)
@@ -121,10 +125,10 @@ bounded_written n u c w a x b h = bounded_coord n (with_item w (txn_index c a) (
 
 -- other messages, sessions and numbers
 abbrev pub like : World → List Message → List Bool → List Session → List ℕ → ℕ → World
-like w ms ac ss gs n = record { logs = w.logs; coordinators = w.coordinators; messages = ms; accepted = ac; sessions = ss; generations = gs; events = n }
+like w ms ac ss gs n = record { logs = w.logs; coordinators = w.coordinators; messages = ms; accepted = ac; sessions = ss; generations = gs; elections = w.elections; events = n }
 
 bounded_like : (n : ℕ) (w : World) (ms : List Message) (ac : List Bool) (ss : List Session) (gs : List ℕ) (m : ℕ) → Bounded n w → All (IsSent n) ms → All (IsSafe n) ss → All (λ g. g ≤ n) gs → Bounded n (like w ms ac ss gs m)
-bounded_like n w ms ac ss gs m b h k l = record { coordinators = b.coordinators; logs = b.logs; messages = h; sessions = k; generations = l }
+bounded_like n w ms ac ss gs m b h k l = record { coordinators = b.coordinators; logs = b.logs; messages = h; sessions = k; generations = l; elections = b.elections }
 
 sent_markers : (n a e : ℕ) (k : Kind) (ps : List ℕ) → e ≤ last_epoch + 1 → All (IsSent n) (due_markers a e k ps)
 sent_markers n a e k [] h = All-nil (IsSent n)
@@ -330,6 +334,20 @@ all_flat : (P : Message → Type 0) (f : ℕ → List Message) (ks : List ℕ) �
 all_flat P f [] h = All-nil P
 all_flat P f (k ∷ ks) h = All-append P (f k) (flat_map f ks) (h k) (all_flat P f ks h)
 
+bounded_elected : (n : ℕ) (w : World) (k : ℕ) (r : Option ℕ) → Bounded n w → Bounded n (elect w k r).0
+bounded_elected n w k None b = b
+bounded_elected n w k (Some p) b = bounded_if n _ _ _ (λ t. b) (λ f1. bounded_if n _ _ _ (λ t. b) (λ f2. record {
+  coordinators = b.coordinators;
+  logs = All-set (All (IsWithin n)) w.logs p (take k (log_at w p)) (All-take (IsWithin n) k (log_at w p) (log_within n w p b)) b.logs;
+  messages = b.messages;
+  sessions = b.sessions;
+  generations = b.generations;
+  elections = All-push (λ x. x.leader_epoch < 2 ^ 16) w.elections (election_of w p k) b.elections (next (epoch_at w p) (not_false _ f2));
+}))
+  where
+    next : (e : ℕ) → nat_lt e 65535 ≡ true → e + 1 < 2 ^ 16
+    next e h = let l = is_lt e 65535 h in omega (arith, l)
+
 -- ---- any event, and any list
 
 pub bounded_event : (n : ℕ) (u : Switches) (c : Config) (w : World) (e : Event) → Bounded n w → Bounded (n + 1) (happens_under u c w e).0
@@ -354,6 +372,7 @@ bounded_event n u c w events.CoordinatorRestart b =
           (all_flat (IsSent (n + 1)) (queued_again c w) (range_with_len 0 (length w.coordinators)) (λ a. due_within (n + 1) a (reread c w a).status (reread c w a).epoch (reread c w a).partitions (reread_within (n + 1) c w a d)));
       sessions = d.sessions;
       generations = d.generations;
+      elections = d.elections;
     }
 bounded_event n u c w (events.Deliver m) b = let d = bounded_more n w b in bounded_deliver (n + 1) u c w m (slice_get w.messages m) d (message_at (n + 1) w.messages m d.messages)
 bounded_event n u c w (events.TimeOut a) b =
@@ -364,6 +383,7 @@ bounded_event n u c w (events.TimeOut a) b =
 bounded_event n u c w (events.AddPartition m p) b = let d = bounded_more n w b in bounded_added (n + 1) u c w p (slice_get w.sessions m) d (safe_at (n + 1) w.sessions m d.sessions)
 bounded_event n u c w (events.WriteMarker m) b = let d = bounded_more n w b in bounded_writing (n + 1) u c w (slice_get w.messages m) d (message_at (n + 1) w.messages m d.messages)
 bounded_event n u c w (events.Complete a) b = let d = bounded_more n w b in bounded_if (n + 1) _ _ _ (λ t. d) (λ f. bounded_completed (n + 1) u c w a (coord_at w a).status d)
+bounded_event n u c w (events.Elect t p k) b = bounded_elected (n + 1) w k (electable_at c t p) (bounded_more n w b)
 
 pub bounded_opening : (c : Config) → Bounded 0 (opening c)
 bounded_opening c = record {
@@ -372,6 +392,7 @@ bounded_opening c = record {
   messages = All-nil (IsSent 0);
   sessions = All-nil (IsSafe 0);
   generations = all_replicated (λ g. g ≤ 0) (group_count c) 0 (omega arith);
+  elections = All-nil (λ x. x.leader_epoch < 2 ^ 16);
 }
   where
     all_replicated : {X : Type 0} (P : X → Type 0) (n : ℕ) (x : X) → P x → All P (replicate n x)

@@ -7,7 +7,7 @@ use Rattle.eos_machine.specs.World.{World}
 use Rattle.eos_machine.specs.Switching.{none}
 use Rattle.eos_machine.specs.Machine.{step, world_after, world_under}
 use Rattle.eos_machine.specs.SwitchedSchedules.{Breaks, all_under}
-use Rattle.eos_machine.specs.ShortSchedules.{Commits, Restarts, Fences, TimesOut, Adds, Completes, Fetches, Omits, Lists, Chains, Rebalances}
+use Rattle.eos_machine.specs.ShortSchedules.{Commits, Restarts, Fences, TimesOut, Adds, Completes, Fetches, Omits, Lists, Chains, Rebalances, Elects}
 
 pub commits : Commits
 unfolding when
@@ -52,6 +52,10 @@ chains = record { replies = refl; output = refl; final = refl; offsets = refl }
 pub rebalances : Rebalances
 unfolding when
 rebalances = record { replies = refl; offsets = refl; generations = refl; single = refl }
+
+pub elects : Elects
+unfolding when
+elects = record { replies = refl; output = refl; elections = refl; first = refl; second = refl; other = refl }
 
 pub breaks : Breaks
 unfolding when

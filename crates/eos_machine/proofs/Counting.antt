@@ -1,6 +1,7 @@
 -- An event appends at most one batch or marker of an application to a partition, so sequences stay below the number of events.
-use Rattle.std.proofs.Common.{◌≡◌, ℕ, ℤ, pos, negsuc, ◌+◌, ◌≤◌, ◌^◌, ◌==◌, ◌&&◌, Bool, true, false, List, [], ◌∷◌, ◌++◌, length, Option, Some, None, refl, sym, ap, subst, arith, ◌∙◌, inl, inr, if◌then◌else◌, length-append}
-use Rattle.std.specs.Prelude.{slice_get}
+use Rattle.std.proofs.Common.{◌≡◌, ℕ, ℤ, pos, negsuc, zero, suc, ◌+◌, ◌≤◌, ◌^◌, ◌==◌, ◌&&◌, Bool, true, false, List, [], ◌∷◌, ◌++◌, length, take, Option, Some, None, refl, sym, ap, subst, arith, ◌∙◌, inl, inr, if◌then◌else◌, length-append}
+use Rattle.std.specs.Prelude.{slice_get, slice_index_or, slice_set}
+use Rattle.std.specs.List.{cons_option}
 use Rattle.std.proofs.lemmas.List.{get_or-set_same, get_or-set_other, get_or_past, length-set}
 use Rattle.std.proofs.lemmas.List.Elements.{filter_map-append}
 use Rattle.std.proofs.lemmas.Bool.{cases_lt}
@@ -17,6 +18,7 @@ use Rattle.eos_machine.specs.Tests.{is_ongoing, has, ongoing_partitions}
 use Rattle.eos_machine.specs.Answers.{Answer, when}
 use Rattle.eos_machine.specs.Sessions.{produce, commit_offset, commit, end_session, resume_ended, resume, fetch}
 use Rattle.eos_machine.specs.Deliveries.{with_partition, accept, ticked_off, deliver, write_marker, complete_prepared}
+use Rattle.eos_machine.specs.Elections.{electable_at, elect}
 use Rattle.eos_machine.specs.Machine.{add_partition, step, world_after}
 use Rattle.eos_machine.specs.steps.Machine.{happens}
 use Rattle.eos_machine.proofs.Worlds.{each}
@@ -26,14 +28,17 @@ use Rattle.eos_machine.proofs.Resting.{no_log}
 abbrev pub Few : ℕ → World → Type 0
 Few n w = (a p : ℕ) → length (marks_of a (log_at w p)) ≤ n
 
--- what holds of each log, of the one with an item more, and of no log
-item_cases : (P : ℕ → List Item → Type 0) (w : World) (p : ℕ) (x : Item) → ((q : ℕ) → P q (log_at w q)) → P p (log_at w p ++ x ∷ []) → P p [] → (q : ℕ) → P q (log_at (with_item w p x) q)
-item_cases P w p x others this none = each (λ q. P q (log_at (with_item w p x) q)) p
+-- what holds of each log, of one that is set, and of no log
+log_cases : (P : ℕ → List Item → Type 0) (w : World) (p : ℕ) (log : List Item) → ((q : ℕ) → P q (log_at w q)) → P p log → P p [] → (q : ℕ) → P q (slice_index_or (slice_set w.logs p log) q [])
+log_cases P w p log others this none = each (λ q. P q (slice_index_or (slice_set w.logs p log) q [])) p
     (elim (cases_lt p (length w.logs)) [
-      | inl l ↦ subst (P p) (sym (get_or-set_same w.logs p (log_at w p ++ x ∷ []) [] l)) this
-      | inr r ↦ subst (P p) (sym (get_or_past (with_item w p x).logs p [] (omega (arith, r, length-set w.logs p (log_at w p ++ x ∷ []))))) none
+      | inl l ↦ subst (P p) (sym (get_or-set_same w.logs p log [] l)) this
+      | inr r ↦ subst (P p) (sym (get_or_past (slice_set w.logs p log) p [] (omega (arith, r, length-set w.logs p log)))) none
     ])
-    (λ q n. subst (P q) (sym (get_or-set_other w.logs p q (log_at w p ++ x ∷ []) [] n)) (others q))
+    (λ q n. subst (P q) (sym (get_or-set_other w.logs p q log [] n)) (others q))
+
+item_cases : (P : ℕ → List Item → Type 0) (w : World) (p : ℕ) (x : Item) → ((q : ℕ) → P q (log_at w q)) → P p (log_at w p ++ x ∷ []) → P p [] → (q : ℕ) → P q (log_at (with_item w p x) q)
+item_cases P w p x others this none = log_cases P w p (log_at w p ++ x ∷ []) others this none
 
 one_mark : (r : Option Mark) (a : ℕ) (x : Item) → mark_in a x ≡ r → length (marks_of a (x ∷ [])) ≤ 1
 one_mark None a x e = rw e (omega arith)
@@ -141,6 +146,19 @@ few_added : (n : ℕ) (c : Config) (w : World) (p : Option ℕ) (r : Option Sess
 few_added n c w p None h = h
 few_added n c w p (Some s) h = few_if n _ _ _ h (few_if n _ _ _ h (few_if n _ _ _ h (few_if n _ _ _ h (few_partition n c w s.application (target_index c s.application p) h))))
 
+taken_few : (a k : ℕ) (xs : List Item) → length (marks_of a (take k xs)) ≤ length (marks_of a xs)
+taken_few a zero xs = omega arith
+taken_few a (suc k) [] = omega arith
+taken_few a (suc k) (x ∷ xs) = let r = taken_few a k xs in elim (mark_in a x) as (λ o. length (cons_option o (marks_of a (take k xs))) ≤ length (cons_option o (marks_of a xs))) [
+  | None ↦ r
+  | Some t ↦ omega (arith, r)
+]
+
+few_elected : (n : ℕ) (w : World) (k : ℕ) (r : Option ℕ) → Few n w → Few n (elect w k r).0
+few_elected n w k None h = h
+few_elected n w k (Some p) h = few_if n _ _ _ h (few_if n _ _ _ h (λ a.
+    log_cases (λ q log. length (marks_of a log) ≤ n) w p (take k (log_at w p)) (h a) (let t = taken_few a k (log_at w p) in let l = h a p in omega (arith, t, l)) (omega arith)))
+
 pub few_event : (n : ℕ) (c : Config) (w : World) (e : Event) → Few n w → Few (n + 1) (happens c w e).0
 few_event n c w (events.Feed p) h = few_if (n + 1) _ _ _ (few_more n w h) (few_item n w (input_index c p) (Fed w.events) h)
 few_event n c w (events.Start a) h =
@@ -161,6 +179,7 @@ few_event n c w (events.TimeOut a) h =
 few_event n c w (events.AddPartition m p) h = few_added (n + 1) c w p (slice_get w.sessions m) (few_more n w h)
 few_event n c w (events.WriteMarker m) h = few_writing n c w (slice_get w.messages m) h
 few_event n c w (events.Complete a) h = let d = few_more n w h in few_if (n + 1) _ _ _ d (few_completed (n + 1) c w a (coord_at w a).status d)
+few_event n c w (events.Elect t p k) h = few_elected (n + 1) w k (electable_at c t p) (few_more n w h)
 
 -- ---- any list of events
 

@@ -18,6 +18,7 @@ use Rattle.eos_machine.specs.Tests.{is_ongoing, has, ongoing_partitions}
 use Rattle.eos_machine.specs.Answers.{Answer, when, Done, Fenced}
 use Rattle.eos_machine.specs.Sessions.{claimed_topic, new_session, sequence_of, after_output, after_offset, after_end, after_resume, sent, produce, commit_offset, commit, end_session, resume_ended, resume, fetch}
 use Rattle.eos_machine.specs.Deliveries.{with_partition, appended, accept, fenced, marked, ticked_off, ticked, deliver, write_marker, complete_prepared}
+use Rattle.eos_machine.specs.Elections.{electable_at, elect}
 use Rattle.eos_machine.specs.Machine.{start_session, start, reread, due_again, queued_again, happens_under, add_partition, counted, step_under, world_under}
 use Rattle.eos_machine.specs.Formed.{Names, IsOfOne, IsFormed}
 use Rattle.eos_machine.proofs.Brokers.{is_lt}
@@ -208,6 +209,11 @@ all_flat : (P : Message → Type 0) (f : ℕ → List Message) (m n : ℕ) → (
 all_flat P f m zero h = All-nil P
 all_flat P f m (suc n) h = All-append P (f m) (flat_map f (range_with_len (m + 1) n)) (h m (omega arith)) (all_flat P f (m + 1) n (λ x l. h x (omega (arith, l))))
 
+formed_elected : (c : Config) (w : World) (k : ℕ) (r : Option ℕ) → IsFormed c w → IsFormed c (elect w k r).0
+formed_elected c w k None f = f
+formed_elected c w k (Some p) f =
+    formed_if c _ _ _ f (λ f1. formed_if c _ _ _ f (λ f2. record { coordinators = f.coordinators; messages = f.messages; sessions = f.sessions; generations = f.generations }))
+
 -- ---- any event, and any list
 
 pub formed_event : (u : Switches) (c : Config) (w : World) (e : Event) → IsFormed c w → IsFormed c (happens_under u c w e).0
@@ -234,6 +240,7 @@ formed_event u c w (events.TimeOut a) f = formed_if c _ _ _ f (λ f1.
 formed_event u c w (events.AddPartition n p) f = formed_added u c w p (slice_get w.sessions n) f
 formed_event u c w (events.WriteMarker n) f = formed_writing u c w (slice_get w.messages n) f
 formed_event u c w (events.Complete a) f = formed_if c _ _ _ f (λ f1. formed_completed u c w a (coord_at w a).status f)
+formed_event u c w (events.Elect t p k) f = formed_elected c w k (electable_at c t p) f
 
 formed_counted : (c : Config) (n : ℕ) (x : Answer) → IsFormed c x.0 → IsFormed c (counted n x).0
 formed_counted c n x f = record { coordinators = f.coordinators; messages = f.messages; sessions = f.sessions; generations = f.generations }

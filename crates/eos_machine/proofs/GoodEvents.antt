@@ -1,8 +1,8 @@
 -- Each event keeps a cluster good.
-use Rattle.std.proofs.Common.{◌⊎◌, ◌≡◌, ℕ, ℤ, pos, negsuc, zero, suc, ◌+◌, ◌<◌, ◌≤◌, ◌==◌, not, ◌&&◌, ◌||◌, Bool, true, false, List, [], ◌∷◌, ◌++◌, length, map, Option, Some, None, refl, sym, ap, subst, arith, ◌∙◌, inl, inr, if◌then◌else◌}
+use Rattle.std.proofs.Common.{◌⊎◌, ◌≡◌, ℕ, ℤ, pos, negsuc, zero, suc, ◌+◌, ◌-◌, ◌<◌, ◌≤◌, ◌==◌, not, ◌&&◌, ◌||◌, Bool, true, false, List, [], ◌∷◌, ◌++◌, length, map, take, slice_set, Option, Some, None, refl, sym, ap, subst, arith, ◌∙◌, inl, inr, if◌then◌else◌}
 use Rattle.std.specs.Prelude.{nat_lt, slice_get, ⊤}
 use Rattle.std.specs.List.{All, Contains, list_any, flat_map, range_with_len}
-use Rattle.std.proofs.lemmas.List.{get_or-map, get_or_past, length-map}
+use Rattle.std.proofs.lemmas.List.{get_or-map, get_or_past, length-map, set-get_or, take_all}
 use Rattle.std.proofs.lemmas.List.FromFn.{length-range_with_len, get_or-range_with_len}
 use Rattle.std.proofs.lemmas.List.Elements.{All-nil, All-cons, All-contains, All-head, All-tail, All-weaker, All-push, All-append, All-map, All-set, All-contains_itself}
 use Rattle.std.proofs.lemmas.Bool.{and_parts, or_parts, eqb-true, cases_lt}
@@ -13,7 +13,7 @@ use Rattle.eos_touch.specs.Pair.{same_kind}
 use Rattle.std.proofs.lemmas.List.{length-set}
 use Rattle.eos_machine.specs.LogIndexes.{Config, application_count, IsConfig, offsets_index, txn_index, input_index, written_index, target_index, is_sequenced, same_topic, listed}
 use Rattle.eos_machine.specs.Switching.{none}
-use Rattle.eos_machine.specs.World.{Claim, Status, Empty, Ongoing, Prepare, Complete, Entry, Item, State, Output, Offset, Marker, Coordinator, Session, Message, World, Event, log_at, fresh, coord_at, generation_of, state_of, with_item, with_coord, written, due_markers, prepared, finished}
+use Rattle.eos_machine.specs.World.{Claim, Status, Empty, Ongoing, Prepare, Complete, Entry, Item, State, Output, Offset, Marker, Coordinator, Session, Message, World, Election, Event, log_at, fresh, coord_at, generation_of, state_of, with_item, with_coord, written, due_markers, prepared, finished}
 use Rattle.eos_machine.specs.declared.state.Message.TheVariants as messages
 use Rattle.eos_machine.specs.declared.event.Event.TheVariants as events
 use Rattle.eos_machine.specs.Application.{Mark, Batch, End, Decision, IsOrdered}
@@ -22,6 +22,7 @@ use Rattle.eos_machine.specs.Tests.{is_ongoing, is_prepare, has, is_nil, is_comm
 use Rattle.eos_machine.specs.Answers.{Answer, when}
 use Rattle.eos_machine.specs.Sessions.{claimed_topic, new_session, after_output, after_offset, after_end, after_resume, sent, produce, commit_offset, commit, end_session, resume_ended, resume, fetch}
 use Rattle.eos_machine.specs.Deliveries.{with_partition, accept, deliver_output, deliver_offset, deliver_end, without, ticked_off, append_marker, deliver_marker, deliver, write_marker, complete_prepared}
+use Rattle.eos_machine.specs.Elections.{electable_at, election_of, elected, elect, LosesNothing}
 use Rattle.eos_machine.specs.Machine.{feed, start_session, start, reread, due_again, queued_again, restarted, add_partition, counted, step, world_after}
 use Rattle.eos_machine.specs.steps.Machine.{happens}
 use Rattle.eos_machine.specs.Rest.{decisions_of}
@@ -30,6 +31,7 @@ use Rattle.eos_machine.proofs.AppSteps.{IsUnder, IsSettled, Grows, IsCurrent, be
 use Rattle.eos_machine.proofs.Good.{app_of, Moves, IsPlace, IsDue, IsRead, IsKept, IsOfOne, Good}
 use Rattle.eos_machine.proofs.Worlds.{IsOf, of_output, of_offset, of_marker, good_item, good_fed, good_coord, good_written, coord_itself, app_written, after_entry, with_state, view_none, app_pushed, app_is}
 use Rattle.eos_machine.proofs.Written.{written_there, target_there}
+use Rattle.eos_machine.proofs.Lossless.{lossless_before}
 use Rattle.eos_machine.proofs.Members.{contains_none, contains_cases, contains_head, contains_tail}
 use Rattle.eos_machine.proofs.Brokers.{IsNumbered, Broker, not_lt, is_lt, above, producer_push, under, broker_batch, broker_end}
 
@@ -152,7 +154,7 @@ range_written c w a p x r = range_coord c (with_item w (txn_index c a) (State a 
 
 -- other messages, sessions and numbers
 abbrev pub like : World → List Message → List Bool → List Session → List ℕ → ℕ → World
-like w ms ac ss gs n = record { logs = w.logs; coordinators = w.coordinators; messages = ms; accepted = ac; sessions = ss; generations = gs; events = n }
+like w ms ac ss gs n = record { logs = w.logs; coordinators = w.coordinators; messages = ms; accepted = ac; sessions = ss; generations = gs; elections = w.elections; events = n }
 
 due_like : (c : Config) (w : World) (ms : List Message) (ac : List Bool) (ss : List Session) (gs : List ℕ) (n : ℕ) (x : Message) → IsDue c w x → IsDue c (like w ms ac ss gs n) x
 due_like c w ms ac ss gs n (messages.Output a f p s x v) h = h
@@ -589,34 +591,80 @@ good_restarted c w g = record {
     orders_read : (s t : Coordinator) (ds : List Decision) → IsRead s t → Orders s.status s.epoch s.partitions ds → Orders t.status t.epoch t.partitions ds
     orders_read s t ds r o = subst (λ (z : Status). Orders z t.epoch t.partitions ds) r.status (subst (λ (e : ℕ). Orders s.status e t.partitions ds) r.epoch (subst (λ (ps : List ℕ). Orders s.status s.epoch ps ds) r.partitions o))
 
+-- ---- an election that loses nothing
+
+-- other elections
+abbrev with_elections : World → List Election → World
+with_elections w es = record w { elections = es }
+
+due_elections : (c : Config) (w : World) (es : List Election) (x : Message) → IsDue c w x → IsDue c (with_elections w es) x
+due_elections c w es (messages.Output a f p s x v) h = h
+due_elections c w es (messages.Offset a f g q v) h = h
+due_elections c w es (messages.End a f k) h = h
+due_elections c w es (messages.Marker a m k p) h = h
+
+good_elections : (c : Config) (w : World) (es : List Election) → Good c w → Good c (with_elections w es)
+good_elections c w es g = record {
+  apps = g.apps;
+  brokers = g.brokers;
+  due = All-weaker (IsDue c w) (IsDue c (with_elections w es)) (due_elections c w es) w.messages g.due;
+  read = g.read;
+  steps = g.steps;
+  places = g.places;
+  sessions = g.sessions;
+  coordinators = g.coordinators;
+  logs = g.logs;
+}
+
+-- the whole log is kept
+elected_same : (w : World) (p k : ℕ) → k ≤ length (log_at w p) → length (log_at w p) - k ≡ 0 → elected w p k ≡ with_elections w (w.elections ++ election_of w p k ∷ [])
+elected_same w p k l z =
+    let whole : take k (log_at w p) ≡ log_at w p = take_all k (log_at w p) (omega (arith, l, z)) in
+    ap (λ (ls : List (List Item)). record w { logs = ls; elections = w.elections ++ election_of w p k ∷ [] }) (ap (slice_set w.logs p) whole ∙ set-get_or w.logs p [])
+
+lossless_last : (xs : List Election) (x : Election) → All (λ y. y.lost ≡ 0) (xs ++ x ∷ []) → x.lost ≡ 0
+lossless_last [] x h = All-head (λ y. y.lost ≡ 0) x [] h
+lossless_last (y ∷ xs) x h = lossless_last xs x (All-tail (λ z. z.lost ≡ 0) y (xs ++ x ∷ []) h)
+
+good_unless : (c : Config) (t : Bool) (x y : Answer) → Good c x.0 → (t ≡ false → LosesNothing y.0 → Good c y.0) → LosesNothing (when t x y).0 → Good c (when t x y).0
+unfolding when
+good_unless c true x y f g h = f
+good_unless c false x y f g h = g refl h
+
+good_elected : (c : Config) (w : World) (k : ℕ) (r : Option ℕ) → Good c w → LosesNothing (elect w k r).0 → Good c (elect w k r).0
+good_elected c w k None g h = g
+good_elected c w k (Some p) g h = good_unless c _ _ _ g (λ f1. good_unless c _ _ _ g (λ f2 n.
+    subst (Good c) (sym (elected_same w p k (not_lt (length (log_at w p)) k f1) (lossless_last w.elections (election_of w p k) n))) (good_elections c w (w.elections ++ election_of w p k ∷ []) g))) h
+
 -- ---- any event, and any list
 
-pub good_event : (c : Config) (w : World) (e : Event) → IsConfig c → Good c w → Good c (happens c w e).0
-good_event c w (events.Feed p) i g = good_feed c w p g
-good_event c w (events.Start a) i g = good_start c w a i g
-good_event c w (events.Produce n p x) i g = good_produce c w n p x (slice_get w.sessions n) g (session_at c w.sessions n g.sessions)
-good_event c w (events.Commit n q v) i g = good_commit c w n q v g
-good_event c w (events.End n k) i g = good_end_session c w n k (slice_get w.sessions n) g (session_at c w.sessions n g.sessions)
-good_event c w (events.Resume n) i g = good_resume c w n (slice_get w.sessions n) g (session_at c w.sessions n g.sessions)
-good_event c w (events.Fetch n q) i g = good_fetch c w q (slice_get w.sessions n) g
-good_event c w (events.Members m) i g = good_if c _ _ _ (λ h. g) (λ h. good_like c w _ _ _ _ _ g g.due g.sessions)
-good_event c w (events.BrokerRestart t p) i g = good_if c _ _ _ (λ h. g) (λ h. g)
-good_event c w events.CoordinatorRestart i g = good_restarted c w g
-good_event c w (events.Deliver n) i g = good_deliver c w n (slice_get w.messages n) i g (due_at c w w.messages n g.due)
-good_event c w (events.TimeOut a) i g = good_if c _ _ _ (λ h. g) (λ f.
+good_event : (c : Config) (w : World) (e : Event) → IsConfig c → Good c w → LosesNothing (happens c w e).0 → Good c (happens c w e).0
+good_event c w (events.Feed p) i g n0 = good_feed c w p g
+good_event c w (events.Start a) i g n0 = good_start c w a i g
+good_event c w (events.Produce n p x) i g n0 = good_produce c w n p x (slice_get w.sessions n) g (session_at c w.sessions n g.sessions)
+good_event c w (events.Commit n q v) i g n0 = good_commit c w n q v g
+good_event c w (events.End n k) i g n0 = good_end_session c w n k (slice_get w.sessions n) g (session_at c w.sessions n g.sessions)
+good_event c w (events.Resume n) i g n0 = good_resume c w n (slice_get w.sessions n) g (session_at c w.sessions n g.sessions)
+good_event c w (events.Fetch n q) i g n0 = good_fetch c w q (slice_get w.sessions n) g
+good_event c w (events.Members m) i g n0 = good_if c _ _ _ (λ h. g) (λ h. good_like c w _ _ _ _ _ g g.due g.sessions)
+good_event c w (events.BrokerRestart t p) i g n0 = good_if c _ _ _ (λ h. g) (λ h. g)
+good_event c w events.CoordinatorRestart i g n0 = good_restarted c w g
+good_event c w (events.Deliver n) i g n0 = good_deliver c w n (slice_get w.messages n) i g (due_at c w w.messages n g.due)
+good_event c w (events.TimeOut a) i g n0 = good_if c _ _ _ (λ h. g) (λ f.
     let r : InRange c w a 0 = ranges c w a 0 i g (is_lt a (application_count c) (not_false _ f)) (omega arith) in
     good_if c _ _ _ (λ h. g) (λ h. good_end c w a (coord_at w a).epoch Abort g r))
-good_event c w (events.AddPartition n p) i g = good_added c w p (slice_get w.sessions n) i g (session_at c w.sessions n g.sessions)
-good_event c w (events.WriteMarker n) i g = good_writing c w (slice_get w.messages n) i g (due_at c w w.messages n g.due)
-good_event c w (events.Complete a) i g = good_if c _ _ _ (λ h. g) (λ f.
+good_event c w (events.AddPartition n p) i g n0 = good_added c w p (slice_get w.sessions n) i g (session_at c w.sessions n g.sessions)
+good_event c w (events.WriteMarker n) i g n0 = good_writing c w (slice_get w.messages n) i g (due_at c w w.messages n g.due)
+good_event c w (events.Complete a) i g n0 = good_if c _ _ _ (λ h. g) (λ f.
     good_completed c w a (coord_at w a).status refl g (ranges c w a 0 i g (is_lt a (application_count c) (not_false _ f)) (omega arith)))
+good_event c w (events.Elect t p k) i g n0 = good_elected c w k (electable_at c t p) g n0
 
 good_counted : (c : Config) (n : ℕ) (x : Answer) → Good c x.0 → Good c (counted n x).0
 good_counted c n x g = good_like c x.0 _ _ _ _ _ g g.due g.sessions
 
-pub good_step : (c : Config) (w : World) (e : Event) → IsConfig c → Good c w → Good c (step c w e).0
-good_step c w e i g = good_if c _ _ _ (λ h. g) (λ h. good_counted c w.events (happens c w e) (good_event c w e i g))
+good_step : (c : Config) (w : World) (e : Event) → IsConfig c → Good c w → LosesNothing (step c w e).0 → Good c (step c w e).0
+good_step c w e i g = good_unless c _ _ _ g (λ f n. good_counted c w.events (happens c w e) (good_event c w e i g n))
 
-pub good_run : (c : Config) (w : World) (es : List Event) → IsConfig c → Good c w → Good c (world_after c w es)
-good_run c w [] i g = g
-good_run c w (e ∷ es) i g = good_run c (step c w e).0 es i (good_step c w e i g)
+pub good_run : (c : Config) (w : World) (es : List Event) → IsConfig c → Good c w → LosesNothing (world_after c w es) → Good c (world_after c w es)
+good_run c w [] i g n = g
+good_run c w (e ∷ es) i g n = good_run c (step c w e).0 es i (good_step c w e i g (lossless_before c (step c w e).0 es n)) n

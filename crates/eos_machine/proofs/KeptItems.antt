@@ -1,14 +1,15 @@
 -- What every event keeps of the logs, whatever switches are on: what items name is there, and an event appends two at the most.
-use Rattle.std.proofs.Common.{◌≡◌, ℕ, ℤ, pos, negsuc, zero, suc, ◌+◌, ◌*◌, ◌^◌, ◌<◌, ◌≤◌, ◌==◌, ◌&&◌, ◌||◌, not, Bool, true, false, List, [], ◌∷◌, ◌++◌, length, map, replicate, Option, Some, None, refl, sym, ap, subst, ◌∙◌, arith, slice_index_or, slice_set, if◌then◌else◌, length-append}
+use Rattle.std.proofs.Common.{◌≡◌, ℕ, ℤ, pos, negsuc, zero, suc, ◌+◌, ◌^◌, ◌<◌, ◌≤◌, ◌==◌, ◌&&◌, not, Bool, true, false, List, [], ◌∷◌, ◌++◌, length, map, Option, Some, None, refl, sym, subst, arith, slice_index_or, slice_set, take, if◌then◌else◌, length-append}
 use Rattle.std.specs.Prelude.{slice_get, ⊤, nat_lt}
 use Rattle.std.specs.List.{All, flat_map, range_with_len, cons_option}
-use Rattle.std.proofs.lemmas.List.Elements.{All-nil, All-cons, All-head, All-tail, All-push, All-append, All-set}
+use Rattle.std.proofs.lemmas.List.{length-take}
+use Rattle.std.proofs.lemmas.List.Elements.{All-nil, All-cons, All-head, All-tail, All-push, All-append, All-set, All-take}
 use Rattle.std.proofs.lemmas.Bool.{or_parts}
 use Rattle.eos_batch.specs.declared.marker.Kind.{Kind}
 use Rattle.eos_batch.specs.declared.marker.Kind.TheVariants.{Abort}
 use Rattle.eos_machine.specs.declared.switches.Switches.{Switches}
 use Rattle.eos_machine.specs.declared.config.Config.{Config}
-use Rattle.eos_machine.specs.LogIndexes.{application_count, txn_index, input_index, written_index, target_index, offsets_index, log_count, listed}
+use Rattle.eos_machine.specs.LogIndexes.{application_count, txn_index, input_index, written_index, target_index, log_count, listed}
 use Rattle.eos_machine.specs.declared.item.Claim.{Claim}
 use Rattle.eos_machine.specs.declared.item.Status.{Status}
 use Rattle.eos_machine.specs.declared.item.Status.TheVariants.{Empty, Ongoing, Prepare, Complete}
@@ -20,17 +21,18 @@ use Rattle.eos_machine.specs.declared.state.Session.{Session}
 use Rattle.eos_machine.specs.declared.state.Message.{Message}
 use Rattle.eos_machine.specs.declared.event.Event.{Event}
 use Rattle.eos_machine.specs.declared.event.Reply.TheVariants.{Done, Fenced}
-use Rattle.eos_machine.specs.World.{World, fresh, opening, log_at, coord_at, with_item, with_coord, said, said_entry, without_odd_outputs, state_of, written, due_markers, prepared, finished}
+use Rattle.eos_machine.specs.World.{World, fresh, log_at, coord_at, with_item, with_coord, said, said_entry, without_odd_outputs, state_of, written, due_markers, prepared, finished}
 use Rattle.eos_machine.specs.declared.state.Message.TheVariants as messages
 use Rattle.eos_machine.specs.declared.event.Event.TheVariants as events
 use Rattle.eos_machine.specs.Logs.{entries_of, last_state}
 use Rattle.eos_machine.specs.Rules.{marker_of}
 use Rattle.eos_machine.specs.Tests.{is_ongoing, has, ongoing_partitions}
 use Rattle.eos_machine.specs.Answers.{Answer, when}
-use Rattle.eos_machine.specs.Sessions.{new_session, claimed_topic, sequence_of, after_output, after_offset, after_end, after_resume, sent, produce, commit_offset, commit, end_session, resume_ended, resume, fetch}
-use Rattle.eos_machine.specs.Deliveries.{with_partition, appended, accept, fenced, marked, ticked_off, ticked, without, deliver, write_marker, complete_prepared}
-use Rattle.eos_machine.specs.Machine.{start_session, start, reread, due_again, queued_again, happens_under, add_partition, counted, step_under, world_under}
-use Rattle.eos_machine.specs.Formed.{Names, IsOfOne, IsFormed}
+use Rattle.eos_machine.specs.Sessions.{claimed_topic, sequence_of, after_output, after_offset, after_end, sent, produce, commit_offset, commit, end_session, resume_ended, resume, fetch}
+use Rattle.eos_machine.specs.Deliveries.{with_partition, appended, accept, fenced, marked, ticked_off, ticked, deliver, write_marker, complete_prepared}
+use Rattle.eos_machine.specs.Elections.{electable_at, elect}
+use Rattle.eos_machine.specs.Machine.{start_session, start, reread, due_again, queued_again, happens_under, add_partition}
+use Rattle.eos_machine.specs.Formed.{IsFormed}
 use Rattle.eos_machine.proofs.Brokers.{is_lt, not_lt}
 use Rattle.eos_machine.proofs.Written.{written_there, target_there, source_there}
 use Rattle.eos_machine.proofs.FormedEvents.{NamesIf, message_at, OneIf, session_at}
@@ -74,6 +76,7 @@ TopicIs P (events.TimeOut a) = ⊤
 TopicIs P (events.AddPartition n p) = ⊤
 TopicIs P (events.WriteMarker n) = ⊤
 TopicIs P (events.Complete a) = ⊤
+TopicIs P (events.Elect s p k) = ⊤
 
 -- ---- parts
 
@@ -250,7 +253,7 @@ kept_completed P c n u w a (Complete k) l e h = kept_more P c n (n + 1) w (omega
 kept_sent : (P : List ℕ → Type 0) (c : Config) (k : ℕ) (w : World) (n : ℕ) (s : Session) (x : Message) → Kept P c k w → KeptMessage P c x → Kept P c k (sent w n s x)
 kept_sent P c k w n s x h i = record { coordinators = h.coordinators; logs = h.logs; messages = All-push (KeptMessage P c) w.messages x h.messages i; count = h.count }
 
-kept_like : (P : List ℕ → Type 0) (c : Config) (k : ℕ) (w : World) (ss : List Session) (ac : List Bool) (gs : List ℕ) (n : ℕ) → Kept P c k w → Kept P c k (record { logs = w.logs; coordinators = w.coordinators; messages = w.messages; accepted = ac; sessions = ss; generations = gs; events = n })
+kept_like : (P : List ℕ → Type 0) (c : Config) (k : ℕ) (w : World) (ss : List Session) (ac : List Bool) (gs : List ℕ) (n : ℕ) → Kept P c k w → Kept P c k (record { logs = w.logs; coordinators = w.coordinators; messages = w.messages; accepted = ac; sessions = ss; generations = gs; elections = w.elections; events = n })
 kept_like P c k w ss ac gs n h = record { coordinators = h.coordinators; logs = h.logs; messages = h.messages; count = h.count }
 
 kept_produce : (P : List ℕ → Type 0) (c : Config) (k : ℕ) (w : World) (n p : ℕ) (x : Option Claim) (r : Option Session) → w.events < 2 ^ 31 → (length (claimed_topic x) ≤ 249 → P (claimed_topic x)) → Kept P c k w → Kept P c k (produce c w n p x r).0
@@ -334,6 +337,20 @@ due_kept P c a Ongoing e ps = All-nil (KeptMessage P c)
 due_kept P c a (Complete k) e ps = All-nil (KeptMessage P c)
 due_kept P c a (Prepare k) e ps = markers_kept P c a e k ps
 
+total_less : (ls : List (List Item)) (p k : ℕ) → total (slice_set ls p (take k (slice_index_or ls p []))) ≤ total ls
+total_less [] p k = omega arith
+total_less (l ∷ ls) zero k = let e = length-take k l in omega (arith, e)
+total_less (l ∷ ls) (suc p) k = let e = total_less ls p k in omega (arith, e)
+
+kept_elected : (P : List ℕ → Type 0) (c : Config) (n : ℕ) (w : World) (k : ℕ) (r : Option ℕ) → Kept P c n w → Kept P c n (elect w k r).0
+kept_elected P c n w k None h = h
+kept_elected P c n w k (Some p) h = kept_if P c n _ _ _ h (λ f1. kept_if P c n _ _ _ h (λ f2. record {
+  coordinators = h.coordinators;
+  logs = All-set (All (KeptItem P c)) w.logs p (take k (log_at w p)) (All-take (KeptItem P c) k (log_at w p) (log_kept P c n w p h)) h.logs;
+  messages = h.messages;
+  count = let m = total_less w.logs p k in omega (arith, m, h.count);
+}))
+
 -- ---- any event, and any list
 
 pub kept_event : (P : List ℕ → Type 0) (c : Config) (k : ℕ) (u : Switches) (w : World) (e : Event) → w.events < 2 ^ 31 → IsFormed c w → TopicIs P e → Kept P c k w → Kept P c (k + 2) (happens_under u c w e).0
@@ -366,3 +383,4 @@ kept_event P c k u w (events.WriteMarker m) n f t h = kept_more P c (k + 1) (k +
 kept_event P c k u w (events.Complete a) n f t h =
     kept_if P c (k + 2) _ _ _ (kept_more P c k (k + 2) w (omega arith) h) (λ f1.
     kept_more P c (k + 1) (k + 2) _ (omega arith) (kept_completed P c k u w a (coord_at w a).status (is_lt a (application_count c) (not_false _ f1)) n h))
+kept_event P c k u w (events.Elect s p i) n f t h = kept_more P c k (k + 2) _ (omega arith) (kept_elected P c k w i (electable_at c s p) h)

@@ -5,6 +5,7 @@ pub mod Brokers
 pub mod Written
 pub mod Good
 pub mod Worlds
+pub mod Lossless
 pub mod GoodEvents
 pub mod Resting
 pub mod Counting
@@ -21,6 +22,7 @@ pub mod BatchTests
 pub mod ByteTexts
 pub mod FittingTests
 pub mod Grouping
+pub mod Led
 pub mod KeptItems
 pub mod ListedPlaces
 pub mod PlaceNames

@@ -1,5 +1,5 @@
 -- Any list of events, under any switches: what stands in the logs fits the fields of its batches.
-use Rattle.std.proofs.Common.{◌≡◌, ℕ, zero, suc, ◌+◌, ◌*◌, ◌^◌, ◌<◌, ◌≤◌, ◌==◌, Bool, true, false, List, [], ◌∷◌, length, replicate, refl, sym, ap, subst, ◌∙◌, arith, slice_index_or}
+use Rattle.std.proofs.Common.{◌≡◌, ℕ, zero, suc, ◌*◌, ◌^◌, ◌<◌, ◌≤◌, ◌==◌, Bool, true, false, List, [], ◌∷◌, length, replicate, refl, arith, slice_index_or}
 use Rattle.std.specs.List.{All}
 use Rattle.std.proofs.lemmas.List.Elements.{All-nil, All-cons, All-head, All-tail}
 use Rattle.std.proofs.lemmas.Bool.{eqb-false}
@@ -14,7 +14,7 @@ use Rattle.eos_machine.specs.declared.event.Event.TheVariants as events
 use Rattle.eos_machine.specs.LogIndexes.{IsConfig, application_count, log_count}
 use Rattle.eos_machine.specs.World.{World, opening, fresh, log_at}
 use Rattle.eos_machine.specs.Answers.{Answer, when}
-use Rattle.eos_machine.specs.Bounds.{Limit, IsWithin, Bounded}
+use Rattle.eos_machine.specs.Bounds.{Limit, IsWithin}
 use Rattle.eos_machine.specs.Formed.{IsFormed}
 use Rattle.eos_machine.specs.Machine.{happens_under, counted, step_under, world_under}
 use Rattle.eos_machine.proofs.BoundedEvents.{bounded_run_under, bounded_opening}
@@ -98,6 +98,7 @@ any_topic (events.TimeOut a) = tt
 any_topic (events.AddPartition n p) = tt
 any_topic (events.WriteMarker n) = tt
 any_topic (events.Complete a) = tt
+any_topic (events.Elect t p k) = tt
 
 any_topics : (xs : List (Switches × Event)) → All (λ x. TopicIs IsShort x.1) xs
 any_topics [] = All-nil (λ x. TopicIs IsShort x.1)
@@ -153,4 +154,11 @@ logs_short c xs p =
 
 -- within the room there is evidence of it
 pub writable : (c : Config) (xs : List (Switches × Event)) → IsConfig c → HasRoomForAll c (world_under c (opening c) xs) → IsWritable c (world_under c (opening c) xs)
-writable c xs i r = let k = kept_reached c xs in record { sizes = i; fit = fit_log c xs; short = logs_short c xs; count = k.kept.count; room = r }
+writable c xs i r = let k = kept_reached c xs in record {
+  sizes = i;
+  fit = fit_log c xs;
+  short = logs_short c xs;
+  elections = (bounded_run_under c (opening c) xs (bounded_opening c)).elections;
+  count = k.kept.count;
+  room = r;
+}

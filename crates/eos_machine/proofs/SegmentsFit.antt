@@ -1,5 +1,5 @@
 -- As many segments as a cluster's logs take: the room is enough, and none is too long.
-use Rattle.std.proofs.Common.{◌≡◌, ℕ, zero, suc, ◌+◌, ◌-◌, ◌*◌, ◌/◌, ◌%◌, ◌^◌, ◌<◌, ◌≤◌, List, [], ◌∷◌, length, take, drop, refl, sym, ap, subst, ◌∙◌, arith, inl, inr, slice_index_or}
+use Rattle.std.proofs.Common.{◌≡◌, ℕ, zero, suc, ◌+◌, ◌-◌, ◌*◌, ◌/◌, ◌^◌, ◌<◌, ◌≤◌, List, [], ◌∷◌, length, take, drop, refl, sym, ap, subst, ◌∙◌, arith, inl, inr, slice_index_or}
 use Rattle.std.specs.List.{All, range_with_len}
 use Rattle.std.proofs.Math.Nat.{div-add-mod, mod-lt, mul_comm, mul-le-mul_right, add-mul, suc-mul}
 use Rattle.std.proofs.lemmas.Bool.{cases_lt}
@@ -7,11 +7,13 @@ use Rattle.std.proofs.lemmas.List.Elements.{All-nil, All-cons, All-head, All-tai
 use Rattle.eos_machine.specs.declared.config.Config.{Config}
 use Rattle.eos_machine.specs.declared.item.Item.{Item}
 use Rattle.eos_machine.specs.LogIndexes.{IsConfig, log_count}
-use Rattle.eos_machine.specs.World.{World, log_at}
+use Rattle.eos_machine.specs.World.{World, Election, log_at}
+use Rattle.eos_machine.specs.Batches.{batches_from}
 use Rattle.eos_machine.specs.Evidences.{segment_count, part_at, segment_at, HasRoomForAll}
 use Rattle.eos_machine.specs.Fitting.{IsFit}
 use Rattle.eos_machine.specs.steps.Writable.{total}
 use Rattle.eos_machine.proofs.BatchSizes.{texts_short}
+use Rattle.eos_machine.proofs.Led.{led_lengths}
 
 -- ---- none is too long
 
@@ -30,12 +32,13 @@ take_few zero xs = omega arith
 take_few (suc n) [] = omega arith
 take_few (suc n) (x ∷ xs) = let r = take_few n xs in omega (arith, r)
 
-pub segment_short : (c : Config) (p : ℕ) (log : List Item) (i : ℕ) → IsConfig c → All (IsFit c) log → length (segment_at c p log i).bytes ≤ 2 ^ 30
-segment_short c p log i f h =
+pub segment_short : (c : Config) (p : ℕ) (es : List Election) (log : List Item) (i : ℕ) → IsConfig c → All (IsFit c) log → length (segment_at c p es log i).bytes ≤ 2 ^ 30
+segment_short c p es log i f h =
     let xs : List Item = part_at c log i in
     let s = texts_short c 0 (i * c.segment_records) xs (omega arith) f (all_take (IsFit c) c.segment_records (drop (i * c.segment_records) log) (all_drop (IsFit c) (i * c.segment_records) log h)) in
     let t = take_few c.segment_records (drop (i * c.segment_records) log) in
-    omega (arith, s, t, f.segment_records.1)
+    let l = led_lengths p es (batches_from c (i * c.segment_records) xs) in
+    omega (arith, s, t, l, f.segment_records.1)
 
 -- ---- and there are no more than there may be
 

@@ -22,6 +22,8 @@ use Rattle.eos_machine.specs.declared.item.Item.TheVariants.{Fed, State, Output,
 use Rattle.eos_machine.specs.declared.item.Entry.{Entry}
 use Rattle.eos_machine.specs.LogIndexes.{input_topic, output_topic}
 use Rattle.eos_machine.specs.Rest.{producer_id, value_of}
+use Rattle.eos_machine.specs.World.{Election}
+use Rattle.eos_machine.specs.Elections.{leader_epoch}
 use Rattle.eos_machine.specs.declared.writer.Writer.{Writer}
 use Rattle.eos_machine.specs.Grouping.{joining}
 
@@ -144,7 +146,8 @@ record_after c n x = delayed (item_record c x) (pos (event_of x) -ℤ pos n)
 abbrev pub last_or : Item → List Item → Item
 last_or x ys = slice_index_or ys (length ys - 1) x
 
--- at this offset an item and those that stand behind it, by the writer of the first, from its time to that of the last
+-- at this offset an item and those that stand behind it, by the writer of the first, from its time to that of the last; before any
+-- election
 abbrev pub batch_of : Config → ℕ → Item → List Item → Batch
 batch_of c o x ys = record {
   base_offset = pos o;
@@ -171,6 +174,10 @@ batches_after c (suc n) o (x ∷ xs) = batches_after c n (o + 1) xs
 -- items one after the other as batches, the first of them at this offset
 abbrev pub batches_from : Config → ℕ → List Item → List Batch
 batches_from c o xs = batches_after c 0 o xs
+
+-- a batch of the log at an index, in the leader epoch of its base offset
+abbrev pub led : ℕ → List Election → Batch → Batch
+led p es b = record b { leader_epoch = pos (leader_epoch p b.base_offset es) }
 
 -- the bytes of batches one after the other
 abbrev pub texts_of : List Batch → List ℕ

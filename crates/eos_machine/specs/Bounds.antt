@@ -1,5 +1,5 @@
 -- How large the numbers of a cluster are after so many events: its epochs fit 16 bits and its sequences 32.
-use Rattle.std.specs.Prelude.{ℕ, ◌+◌, ◌≤◌, ◌<◌, ⊤}
+use Rattle.std.specs.Prelude.{ℕ, ◌+◌, ◌^◌, ◌≤◌, ◌<◌, ⊤}
 use Rattle.std.specs.List.{All}
 use Rattle.eos_machine.specs.World.{World, Status, Empty, Ongoing, Prepare, Complete, Item, Fed, State, Output, Offset, Marker, Session, Message}
 use Rattle.eos_machine.specs.declared.state.Message.TheVariants as messages
@@ -34,3 +34,4 @@ pub record Bounded (n : ℕ) (w : World) : Type 0 where
   pub messages : All (IsSent n) w.messages
   pub sessions : All (IsSafe n) w.sessions
   pub generations : All (λ g. g ≤ n) w.generations
+  pub elections : All (λ x. x.leader_epoch < 2 ^ 16) w.elections

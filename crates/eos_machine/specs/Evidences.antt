@@ -11,9 +11,9 @@ use Rattle.eos_evidence.specs.Evidence.{EvidenceParts, without_segments, added}
 use Rattle.eos_machine.specs.declared.config.Config.{Config}
 use Rattle.eos_machine.specs.declared.item.Item.{Item}
 use Rattle.eos_machine.specs.LogIndexes.{log_count, topic_of, number_of, final_topic, input_topic, output_topic}
-use Rattle.eos_machine.specs.World.{World, log_at}
+use Rattle.eos_machine.specs.World.{World, Election, log_at}
 use Rattle.eos_batch.specs.declared.batch.Batch.{Batch}
-use Rattle.eos_machine.specs.Batches.{group, batches_from, texts_of, AreTexts, AreRead, second_group}
+use Rattle.eos_machine.specs.Batches.{group, batches_from, led, texts_of, AreTexts, AreRead, second_group}
 
 -- the group that reads `in` and writes `out`
 abbrev pub application : App
@@ -41,24 +41,24 @@ segment_count c n = (n + (c.segment_records - 1)) / c.segment_records
 abbrev pub part_at : Config → List Item → ℕ → List Item
 part_at c log i = take c.segment_records (drop (i * c.segment_records) log)
 
--- its batches: the last one ends where the segment ends
-abbrev pub batches_at : Config → List Item → ℕ → List Batch
-batches_at c log i = batches_from c (i * c.segment_records) (part_at c log i)
+-- its batches, at the index p after these elections: the last one ends where the segment ends
+abbrev pub batches_at : Config → ℕ → List Election → List Item → ℕ → List Batch
+batches_at c p es log i = map (led p es) (batches_from c (i * c.segment_records) (part_at c log i))
 
 -- the i-th segment of a log
-abbrev pub segment_at : Config → ℕ → List Item → ℕ → Segment
-segment_at c p log i = record {
+abbrev pub segment_at : Config → ℕ → List Election → List Item → ℕ → Segment
+segment_at c p es log i = record {
   topic = topic_of c p;
   partition = pos (number_of c p);
   base = pos (i * c.segment_records);
-  bytes = texts_of (batches_at c log i);
+  bytes = texts_of (batches_at c p es log i);
 }
 
-abbrev pub log_segments : Config → ℕ → List Item → List Segment
-log_segments c p log = map (segment_at c p log) (range_with_len 0 (segment_count c (length log)))
+abbrev pub log_segments : Config → ℕ → List Election → List Item → List Segment
+log_segments c p es log = map (segment_at c p es log) (range_with_len 0 (segment_count c (length log)))
 
 abbrev pub cluster_segments : Config → World → List Segment
-cluster_segments c w = flat_map (λ p. log_segments c p (log_at w p)) (range_with_len 0 (log_count c))
+cluster_segments c w = flat_map (λ p. log_segments c p w.elections (log_at w p)) (range_with_len 0 (log_count c))
 
 -- evidence with these segments more
 abbrev pub adding : EvidenceParts → List Segment → Result EvidenceParts AddFault
@@ -66,8 +66,8 @@ adding e [] = Ok e
 adding e (s ∷ ss) = added e s >>= λ f. adding f ss
 
 -- a log that is written down: the bytes of each batch are a text of it, and the states read back
-pub record HaveTexts (c : Config) (log : List Item) : Type 0 where
-  pub texts : (i : ℕ) → i < segment_count c (length log) → AreTexts (batches_at c log i)
+pub record HaveTexts (c : Config) (p : ℕ) (es : List Election) (log : List Item) : Type 0 where
+  pub texts : (i : ℕ) → i < segment_count c (length log) → AreTexts (batches_at c p es log i)
   pub reads : AreRead c log
 
 -- the evidence that is made of the cluster's parts and of exactly its segments, in which each batch's bytes are a text of it
@@ -75,7 +75,7 @@ pub record IsEvidenceOf (c : Config) (w : World) (e : EvidenceParts) : Type 0 wh
   pub spec : SpecFields
   pub accepted : accepted (parts_of c w) ≡ Ok spec
   pub added : adding (without_segments spec) (cluster_segments c w) ≡ Ok e
-  pub written : (p : ℕ) → p < log_count c → HaveTexts c (log_at w p)
+  pub written : (p : ℕ) → p < log_count c → HaveTexts c p w.elections (log_at w p)
 
 -- two segments an event at the most, cut short only at the end of a partition: as many as evidence may have
 abbrev pub HasRoomForAll : Config → World → Type 0

@@ -8,6 +8,7 @@ pub mod Tests
 pub mod Answers
 pub mod Sessions
 pub mod Deliveries
+pub mod Elections
 pub mod Machine
 pub mod Rest
 pub mod ShortSchedules

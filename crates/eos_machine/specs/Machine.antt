@@ -12,6 +12,7 @@ use Rattle.eos_machine.specs.Tests.{is_active, is_current, is_ongoing, is_prepar
 use Rattle.eos_machine.specs.Answers.{Answer, when, Done, Fenced, WrongState, Busy, EpochsSpent, Unknown, Full}
 use Rattle.eos_machine.specs.Sessions.{last_epoch, new_session, produce, commit, end_session, resume, fetch}
 use Rattle.eos_machine.specs.Deliveries.{with_partition, deliver_end, deliver, write_marker, complete}
+use Rattle.eos_machine.specs.Elections.{electable_at, elect}
 
 abbrev pub feed : Config → World → ℕ → Answer
 feed c w p =
@@ -104,6 +105,7 @@ happens_under u c w (events.TimeOut a) = time_out u c w a
 happens_under u c w (events.AddPartition n p) = add_partition u c w p (slice_get w.sessions n)
 happens_under u c w (events.WriteMarker n) = write_marker u c w (slice_get w.messages n)
 happens_under u c w (events.Complete a) = complete u c w a
+happens_under u c w (events.Elect t p k) = elect w k (electable_at c t p)
 
 -- an event was taken
 abbrev pub counted : ℕ → Answer → Answer

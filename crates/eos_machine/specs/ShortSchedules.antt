@@ -1,11 +1,12 @@
 -- Short schedules, with what is answered and what stands in the logs after them.
 use Rattle.std.specs.Prelude.{◌≡◌, pos, negsuc, true, false, List, [], ◌∷◌, Option, Some, None, drop}
 use Rattle.eos_batch.specs.declared.marker.Kind.TheVariants.{Commit, Abort}
-use Rattle.eos_machine.specs.LogIndexes.{Config, final_topic, input_topic, output_topic}
+use Rattle.eos_machine.specs.LogIndexes.{Config, final_topic, input_topic, output_topic, transactions_topic}
 use Rattle.eos_machine.specs.World.{World, Claim, Event, Reply, Empty, Ongoing, Prepare, Complete, Fed, State, Output, Offset, Marker, opening, log_at}
 use Rattle.eos_machine.specs.declared.state.Message.TheVariants as messages
 use Rattle.eos_machine.specs.declared.event.Event.TheVariants as events
 use Rattle.eos_machine.specs.Answers.{Done, Fenced, OutOfOrder, DuplicateKept, WrongState, Busy, StaleGeneration, Unknown}
+use Rattle.eos_machine.specs.Elections.{epoch_at, leader_epoch}
 use Rattle.eos_machine.specs.Machine.{world_after, replies}
 
 -- two applications, two partitions of each topic of theirs; and one of everything
@@ -191,3 +192,21 @@ pub record Rebalances : Type 0 where
   pub generations : (after chained rebalancing).generations ≡ 1 ∷ 1 ∷ []
   -- where there is one group, no other one has members
   pub single : Answers single (events.Members 1 ∷ events.Members 0 ∷ []) (Unknown ∷ Done 0 ∷ [])
+
+-- a partition has three leaders: the second has the whole log, the third lacks a record that was acknowledged
+abbrev pub electing : List Event
+electing =
+    events.Start 0 ∷ events.Produce 0 0 claim ∷ events.Produce 0 0 claim ∷ events.Deliver 0 ∷ events.Elect output_topic 0 1 ∷ events.Deliver 0 ∷ events.Deliver 1
+    ∷ events.Elect output_topic 0 3 ∷ events.Elect output_topic 2 0 ∷ events.Elect transactions_topic 0 0 ∷ events.Elect output_topic 0 1 ∷ events.Deliver 0 ∷ events.Deliver 1 ∷ []
+
+pub record Elects : Type 0 where
+  -- what the new leader has it knows, and what it lacks comes again
+  pub replies : Answers pair electing
+      (Done 0 ∷ Done 0 ∷ Done 1 ∷ Done 0 ∷ Done 1 ∷ DuplicateKept ∷ Done 1
+      ∷ Unknown ∷ Unknown ∷ Unknown ∷ Done 2 ∷ DuplicateKept ∷ Done 1 ∷ [])
+  pub output : log_at (after pair electing) 4 ≡ Output 0 0 0 claim 1 3 ∷ Output 0 0 1 claim 2 12 ∷ []
+  pub elections : (after pair electing).elections ≡ record { place = 4; leader_epoch = 1; start = 1; lost = 0 } ∷ record { place = 4; leader_epoch = 2; start = 1; lost = 1 } ∷ []
+  -- the leader epochs of its records, and of a log that had no election
+  pub first : leader_epoch 4 (pos 0) (after pair electing).elections ≡ 0
+  pub second : leader_epoch 4 (pos 1) (after pair electing).elections ≡ 2
+  pub other : epoch_at (after pair electing) 5 ≡ 0

@@ -13,6 +13,7 @@ pub use Rattle.eos_machine.specs.declared.item.Item.TheVariants.{Fed, State, Out
 pub use Rattle.eos_machine.specs.declared.state.Coordinator.{Coordinator}
 pub use Rattle.eos_machine.specs.declared.state.Producer.{Producer}
 pub use Rattle.eos_machine.specs.declared.state.Session.{Session}
+pub use Rattle.eos_machine.specs.declared.state.Election.{Election}
 pub use Rattle.eos_machine.specs.declared.state.Message.{Message}
 use Rattle.eos_machine.specs.declared.state.Message.TheVariants as messages
 pub use Rattle.eos_machine.specs.declared.event.Event.{Event}
@@ -29,6 +30,8 @@ pub record World : Type 0 where
   pub sessions : List Session
   -- by group: how often its members have changed
   pub generations : List ℕ
+  -- of the leaders of all partitions, the oldest first
+  pub elections : List Election
   -- how many events were taken
   pub events : ℕ
 
@@ -44,6 +47,7 @@ opening c = record {
   accepted = [];
   sessions = [];
   generations = replicate (group_count c) 0;
+  elections = [];
   events = 0;
 }
 

@@ -79,6 +79,13 @@ pub enum Event {
     Complete {
         application: usize,
     },
+    /// A partition gets a new leader, whose log has so many records of the old one's, from the first on: where these aren't all, the
+    /// election is an unclean one, and what was acknowledged behind them is lost (KIP-101, KIP-279; `unclean.leader.election.enable`).
+    Elect {
+        topic: Bytes,
+        partition: usize,
+        kept: u64,
+    },
 }
 
 /// What a cluster answers.
@@ -98,7 +105,7 @@ pub enum Reply {
     Busy,
     /// The session began under another generation of its group.
     StaleGeneration,
-    /// There is no higher producer epoch.
+    /// There is no higher producer epoch, or no higher leader epoch.
     EpochsSpent,
     /// A number names nothing.
     Unknown,

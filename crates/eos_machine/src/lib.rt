@@ -1,7 +1,7 @@
 //! A simulated cluster as a machine: what its members hold, what may happen to it, and what it answers, by definitions that
 //! the cluster's code is proved against; its logs as they are written down, with the bytes of each batch, the segments, the
 //! true ends and the evidence of a schedule; and the theorem on every schedule, over these definitions alone. Of code only
-//! what sizes and switches say stands here.
+//! what sizes, switches and elections say stands here.
 #![tactic(auto)]
 
 mod config;
@@ -15,6 +15,6 @@ mod writer;
 pub use config::Config;
 pub use event::{Event, Reply};
 pub use item::{Claim, Entry, Item, LogIndexes, Status};
-pub use state::{Coordinator, Message, Producer, Session};
+pub use state::{Coordinator, Election, Message, Producer, Session, leader_epoch};
 pub use switches::{Switch, Switches};
 pub use writer::Writer;

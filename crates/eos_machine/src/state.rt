@@ -1,5 +1,8 @@
 //! What the members of a cluster hold in memory, and what is on its way between them.
 
+ghost use Rattle.std.specs.Prelude.{◌≡◌, pos};
+ghost use Rattle.eos_machine.specs.Elections.{leader_epoch};
+
 use crate::item::{Claim, LogIndexes, Status};
 use eos_base::Listed;
 use eos_batch::Kind;
@@ -42,6 +45,19 @@ pub struct Session {
     pub messages: Listed<u64>,
 }
 
+/// An election of a leader, as a partition keeps it (Kafka's `leader-epoch-checkpoint`), and what it lost.
+#[derive(Clone, Copy, Debug, PartialEq, Eq)]
+pub struct Election {
+    /// The partition, by its place among all logs.
+    pub place: usize,
+    /// The leader epoch that began; before the first election it is 0.
+    pub leader_epoch: u16,
+    /// The offset that it began at: how many records the new leader had.
+    pub start: u64,
+    /// How many records it didn't have.
+    pub lost: u64,
+}
+
 /// A request on its way.
 #[derive(Debug, Drop)]
 pub enum Message {
@@ -75,4 +91,17 @@ pub enum Message {
         kind: Kind,
         place: usize,
     },
+}
+
+/// The leader epoch of an offset in the log at a place, after these elections.
+pub fn leader_epoch(elections: &[Election], place: usize, offset: u64) -> u16
+    ensures { result ≡ leader_epoch place (pos offset) elections.now }
+{
+    let mut epoch = 0;
+    for election in elections {
+        if election.place == place && election.start <= offset {
+            epoch = election.leader_epoch;
+        }
+    }
+    epoch
 }

@@ -19,6 +19,7 @@ use Rattle.eos_evidence.proofs.AddedSegments.{found_first, gives_added, still_co
 use Rattle.eos_machine.specs.declared.config.Config.{Config}
 use Rattle.eos_machine.specs.declared.item.Item.{Item}
 use Rattle.eos_machine.specs.LogIndexes.{IsConfig, log_count}
+use Rattle.eos_machine.specs.declared.state.Election.{Election}
 use Rattle.eos_machine.specs.World.{World, log_at}
 use Rattle.eos_machine.specs.Evidences.{end_of, parts_of, segment_count, segment_at, log_segments, cluster_segments, adding}
 use Rattle.eos_machine.specs.steps.Writable.{IsWritable}
@@ -112,17 +113,17 @@ base_within n r i l h =
     next_times zero r = omega arith
     next_times (suc k) r = let e = next_times k r in omega (arith, e)
 
-log_widths : (c : Config) (p : ℕ) (log : List Item) (a k : ℕ) → IsConfig c → length log < 2 ^ 63 → a + k ≤ segment_count c (length log) → All HasWidth (map (segment_at c p log) (range_with_len a k))
-log_widths c p log a zero i l m = All-nil HasWidth
-log_widths c p log a (suc k) i l m =
+log_widths : (c : Config) (p : ℕ) (es : List Election) (log : List Item) (a k : ℕ) → IsConfig c → length log < 2 ^ 63 → a + k ≤ segment_count c (length log) → All HasWidth (map (segment_at c p es log) (range_with_len a k))
+log_widths c p es log a zero i l m = All-nil HasWidth
+log_widths c p es log a (suc k) i l m =
     let b = base_within (length log) c.segment_records a i.segment_records.0 (omega (arith, m)) in
-    All-cons HasWidth (segment_at c p log a) (map (segment_at c p log) (range_with_len (a + 1) k)) (record { sfits = omega (arith, b, l) }) (log_widths c p log (a + 1) k i l (omega (arith, m)))
+    All-cons HasWidth (segment_at c p es log a) (map (segment_at c p es log) (range_with_len (a + 1) k)) (record { sfits = omega (arith, b, l) }) (log_widths c p es log (a + 1) k i l (omega (arith, m)))
 
-all_widths : (c : Config) (w : World) (a k : ℕ) → IsWritable c w → All HasWidth (flat_map (λ p. log_segments c p (log_at w p)) (range_with_len a k))
+all_widths : (c : Config) (w : World) (a k : ℕ) → IsWritable c w → All HasWidth (flat_map (λ p. log_segments c p w.elections (log_at w p)) (range_with_len a k))
 all_widths c w a zero g = All-nil HasWidth
 all_widths c w a (suc k) g =
-    All-append HasWidth (log_segments c a (log_at w a)) (flat_map (λ p. log_segments c p (log_at w p)) (range_with_len (a + 1) k))
-    (log_widths c a (log_at w a) 0 (segment_count c (length (log_at w a))) g.sizes (g.short a) (omega arith)) (all_widths c w (a + 1) k g)
+    All-append HasWidth (log_segments c a w.elections (log_at w a)) (flat_map (λ p. log_segments c p w.elections (log_at w p)) (range_with_len (a + 1) k))
+    (log_widths c a w.elections (log_at w a) 0 (segment_count c (length (log_at w a))) g.sizes (g.short a) (omega arith)) (all_widths c w (a + 1) k g)
 
 later_ends : (c : Config) (w : World) (p a n : ℕ) → p < a → AllByRecursion (λ f. end_cmp (end_of c w p) f ≡ Less) (map (end_of c w) (range_with_len a n))
 later_ends c w p a zero l = tt

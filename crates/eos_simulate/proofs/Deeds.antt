@@ -4,7 +4,9 @@ use Rattle.std.proofs.lemmas.Bool.{false≢true}
 use Rattle.std.proofs.lemmas.List.{take_all, take_more, take-append-drop, append-nil}
 use Rattle.std.proofs.lemmas.List.Elements.{Contains-append_left, Contains-push}
 use Rattle.std.specs.List.{AllZip}
+use Rattle.eos_machine.specs.declared.config.Config.{Config}
 use Rattle.eos_machine.specs.declared.switches.Switches.{Switches}
+use Rattle.eos_machine.specs.Elections.{LosesNothing}
 use Rattle.eos_machine.specs.declared.event.Event.{Event}
 use Rattle.eos_machine.specs.declared.event.Reply.{Reply}
 use Rattle.eos_cluster.specs.Courses.{Course}
@@ -18,7 +20,7 @@ use Rattle.eos_history_lines.specs.declared.line.Note.{Note as SaidNote}
 use Rattle.eos_history_lines.specs.declared.line.Line.{Line}
 use Rattle.eos_simulate.specs.declared.replaying.ReplayFault.{ReplayFault}
 use Rattle.eos_simulate.specs.declared.replaying.ReplayFault.TheVariants.{NotAtRest, Limit, Otherwise, Totals, OutOfMemory}
-use Rattle.eos_simulate.specs.Histories.{note_of, act_said, acts_of, acts_said, reply_said, Agrees, IsAsSaid}
+use Rattle.eos_simulate.specs.Histories.{new_course, LoseNothing, note_of, act_said, acts_of, acts_said, reply_said, Agrees, IsAsSaid}
 use Rattle.eos_simulate.specs.Replays.{DiffersFirst, IfOtherwise}
 use Rattle.eos_simulate.specs.steps.Passing.{HavePassed, HasPassed, IsNoted, HasDiffered, DiffersAfter, IsOther}
 use Rattle.eos_drive.proofs.OneAfterAnother as deeds
@@ -30,6 +32,12 @@ kept_on = deeds.kept_on
 -- nothing is done
 pub kept_still : (s : Course) (now : List Deed) → IsKept s now s now
 kept_still = deeds.kept_still
+
+-- where no election of a history lost a record, none has in the cluster to which it leads
+pub lossless_kept : (c : Config) (before now : List Deed) (t : Course) → IsKept (new_course c) before t now → before ≡ [] → LoseNothing c now → LosesNothing t.world
+lossless_kept c before now t k none lossless =
+    let is : now ≡ k.since = k.kept ∙ ap (λ (ds : List Deed). ds ++ k.since) none in
+    subst (λ (s : Course). LosesNothing s.world) (sym k.leads.state) (subst (LoseNothing c) is lossless)
 
 pub kept_same : (s : Course) (before now : List Deed) → now ≡ before → IsKept s before s now
 kept_same s before now e = subst (λ (x : List Deed). IsKept s before s x) (sym e) (deeds.kept_still s before)

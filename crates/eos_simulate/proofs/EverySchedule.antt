@@ -10,6 +10,7 @@ use Rattle.eos_machine.specs.declared.event.Event.{Event}
 use Rattle.eos_machine.specs.LogIndexes.{IsConfig, txn_index, log_count}
 use Rattle.eos_machine.specs.World.{World, opening, log_at}
 use Rattle.eos_machine.specs.Machine.{world_after}
+use Rattle.eos_machine.specs.Elections.{LosesNothing}
 use Rattle.eos_machine.specs.Rest.{IsAtRest, NeighboursFit, AllAtomic}
 use Rattle.eos_machine.proofs.Good.{Good}
 use Rattle.eos_machine.proofs.Counting.{IsCounted, counted_run, counted_opening}
@@ -47,8 +48,11 @@ settled e h = record {
   placed = subst (Placed h.config) (sym h.world_after) (placed_run h.config (opening h.config) h.events (placed_opening h.config));
 }
   where
+    lossless : LosesNothing (world_after h.config (opening h.config) h.events)
+    lossless = subst LosesNothing h.world_after h.lossless
+
     good : Good h.config h.world
-    good = subst (Good h.config) (sym h.world_after) (good_run h.config (opening h.config) h.events h.sizes (good_opening h.config))
+    good = subst (Good h.config) (sym h.world_after) (good_run h.config (opening h.config) h.events h.sizes (good_opening h.config) lossless)
 
     counted : IsCounted h.world
     counted = subst IsCounted (sym h.world_after) (counted_run h.config (opening h.config) h.events (counted_opening h.config))

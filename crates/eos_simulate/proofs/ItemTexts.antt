@@ -1,5 +1,5 @@
 -- Each batch of a log that fits is written as a text of it.
-use Rattle.std.proofs.Common.{◌≡◌, ℕ, zero, suc, ◌+◌, ◌-◌, ◌*◌, ◌/◌, ◌^◌, ◌<◌, ◌≤◌, ℤ, pos, negsuc, ◌-ℤ◌, unsigned_abs, List, [], ◌∷◌, ◌++◌, map, length, take, drop, Option, Some, None, refl, sym, ap, subst, arith, codes, FitsSigned, w8, w16, w32, w64, Bool, true, false}
+use Rattle.std.proofs.Common.{◌≡◌, ℕ, zero, suc, ◌+◌, ◌-◌, ◌*◌, ◌/◌, ◌^◌, ◌<◌, ◌≤◌, ℤ, pos, negsuc, ◌-ℤ◌, unsigned_abs, List, [], ◌∷◌, ◌++◌, map, length, take, drop, Option, Some, None, refl, sym, ap, subst, ◌∙◌, arith, codes, FitsSigned, w8, w16, w32, w64, Bool, true, false}
 use Rattle.std.specs.Prelude.{⊤, nat_lt, if◌then◌else◌}
 use Rattle.std.specs.List.{All}
 use Rattle.std.proofs.lemmas.List.Elements.{All-nil, All-cons, All-head, All-tail, All-take}
@@ -27,10 +27,12 @@ use Rattle.eos_machine.specs.LogIndexes.{IsConfig, application_count, input_topi
 use Rattle.eos_machine.proofs.Written.{few_applications}
 use Rattle.eos_machine.specs.declared.writer.Writer.{Writer}
 use Rattle.eos_machine.specs.steps.Joined.{AreJoined}
-use Rattle.eos_machine.specs.Batches.{group, transactional_id, bytes_of, claim_headers, headers_of, offset_record, control_type, marker_record, plain, transactional, control, event_of, item_writer, item_record, record_after, last_or, batch_of, behind, batches_after, AreTexts, second_group, source_key, commit_of}
+use Rattle.eos_machine.specs.Batches.{group, transactional_id, bytes_of, claim_headers, headers_of, offset_record, control_type, marker_record, plain, transactional, control, event_of, item_writer, item_record, record_after, last_or, batch_of, behind, batches_after, led, AreTexts, second_group, source_key, commit_of}
 use Rattle.eos_machine.specs.Evidences.{part_at, batches_at, HaveTexts}
 use Rattle.eos_machine.specs.Fitting.{IsFit}
 use Rattle.eos_machine.proofs.BatchSizes.{key_written}
+use Rattle.eos_machine.specs.declared.state.Election.{Election}
+use Rattle.eos_machine.proofs.Led.{led_tested, epoch_small}
 use Rattle.eos_machine.proofs.BatchTests.{batch_tested}
 use Rattle.eos_machine.proofs.ByteTexts.{no_bytes, one_more, known_bytes, i16_bytes, i32_bytes, i64_bytes}
 use Rattle.eos_machine.proofs.FittingTests.{fit_event, fit_last}
@@ -171,12 +173,17 @@ all_bytes c n [] i f h = All-nil IsOfBytes
 all_bytes c n (x ∷ xs) i f h =
     All-cons IsOfBytes (record_after c n x) (map (record_after c n) xs) (record_bytes c n x i (All-head (IsFit c) x xs f) (All-head HasBytes x xs h)) (all_bytes c n xs i (All-tail (IsFit c) x xs f) (All-tail HasBytes x xs h))
 
-batch_text : (c : Config) (o : ℕ) (x : Item) (ys : List Item) → IsConfig c → o + length ys < 2 ^ 63 → length ys < 1000 → AreJoined x ys → All (IsFit c) (x ∷ ys) → All HasBytes (x ∷ ys) → IsBatchText (batch_text_of (batch_of c o x ys)) (batch_of c o x ys)
-batch_text c o x ys i l m j f h =
+-- the leader epochs are as small as Kafka's
+abbrev pub AreEpochs : List Election → Type 0
+AreEpochs es = All (λ x. x.leader_epoch < 2 ^ 16) es
+
+batch_text : (c : Config) (p : ℕ) (es : List Election) (o : ℕ) (x : Item) (ys : List Item) → IsConfig c → AreEpochs es → o + length ys < 2 ^ 63 → length ys < 1000 → AreJoined x ys → All (IsFit c) (x ∷ ys) → All HasBytes (x ∷ ys) → IsBatchText (batch_text_of (led p es (batch_of c o x ys))) (led p es (batch_of c o x ys))
+batch_text c p es o x ys i k l m j f h =
     let w = fits_writer c x i (All-head (IsFit c) x ys f) in
     let e = fit_event c x (All-head (IsFit c) x ys f) in
     let g = fit_event c (last_or x ys) (fit_last c x ys f) in
-    written_text (batch_of c o x ys) (batch_tested c o x ys i l m j f) (record {
+    let n = epoch_small p (pos o) es k in
+    written_text (led p es (batch_of c o x ys)) (led_tested p es (batch_of c o x ys) ∙ batch_tested c o x ys i l m j f) (record {
       attributes = w.attributes;
       base_timestamp = record { sfits = e };
       max_timestamp = record { sfits = g };
@@ -184,22 +191,22 @@ batch_text c o x ys i l m j f h =
       epoch = w.epoch;
       sequence = w.sequence;
       records = all_widths c (event_of x) (x ∷ ys) e f;
-    }) (record { sfits = omega (arith, l) }) (record { sfits = omega arith }) (all_bytes c (event_of x) (x ∷ ys) i f h)
+    }) (record { sfits = omega (arith, l) }) (record { sfits = omega (arith, n) }) (all_bytes c (event_of x) (x ∷ ys) i f h)
 
 -- the batches of items, of which so many at the front stand in a batch already
-are_texts : (c : Config) (n o : ℕ) (xs : List Item) → IsConfig c → o + length xs < 2 ^ 63 → All (IsFit c) xs → All HasBytes xs → AreTexts (batches_after c n o xs)
-are_texts c n o [] i l f h = tt
-are_texts c zero o (x ∷ xs) i l f h =
+are_texts : (c : Config) (p : ℕ) (es : List Election) (n o : ℕ) (xs : List Item) → IsConfig c → AreEpochs es → o + length xs < 2 ^ 63 → All (IsFit c) xs → All HasBytes xs → AreTexts (map (led p es) (batches_after c n o xs))
+are_texts c p es n o [] i g l f h = tt
+are_texts c p es zero o (x ∷ xs) i g l f h =
     let m : ℕ = behind c x xs in
     let few = joining_few (c.batch_records - 1) x xs in
     let within = joining_within (c.batch_records - 1) x xs in
     let t = length-take m xs in (
-      batch_text c o x (take m xs) i (omega (arith, l, within, t)) (omega (arith, few, t, i.batch_records.0, i.batch_records.1)) (are_joined (c.batch_records - 1) x xs)
+      batch_text c p es o x (take m xs) i g (omega (arith, l, within, t)) (omega (arith, few, t, i.batch_records.0, i.batch_records.1)) (are_joined (c.batch_records - 1) x xs)
           (All-cons (IsFit c) x (take m xs) (All-head (IsFit c) x xs f) (All-take (IsFit c) m xs (All-tail (IsFit c) x xs f)))
           (All-cons HasBytes x (take m xs) (All-head HasBytes x xs h) (All-take HasBytes m xs (All-tail HasBytes x xs h))),
-      are_texts c m (o + 1) xs i (omega (arith, l)) (All-tail (IsFit c) x xs f) (All-tail HasBytes x xs h),
+      are_texts c p es m (o + 1) xs i g (omega (arith, l)) (All-tail (IsFit c) x xs f) (All-tail HasBytes x xs h),
     )
-are_texts c (suc n) o (x ∷ xs) i l f h = are_texts c n (o + 1) xs i (omega (arith, l)) (All-tail (IsFit c) x xs f) (All-tail HasBytes x xs h)
+are_texts c p es (suc n) o (x ∷ xs) i g l f h = are_texts c p es n (o + 1) xs i g (omega (arith, l)) (All-tail (IsFit c) x xs f) (All-tail HasBytes x xs h)
 
 -- ---- a log
 
@@ -211,16 +218,16 @@ begins_inside n r i l h =
     let t = add-mul i 1 r in
     omega (arith, d, s, g, t, l)
 
-pub have_texts : (c : Config) (log : List Item) → IsConfig c → length log < 2 ^ 63 → All (IsFit c) log → All HasBytes log → HaveTexts c log
-have_texts c log i l f h = record {
+pub have_texts : (c : Config) (p : ℕ) (es : List Election) (log : List Item) → IsConfig c → AreEpochs es → length log < 2 ^ 63 → All (IsFit c) log → All HasBytes log → HaveTexts c p es log
+have_texts c p es log i g l f h = record {
   texts = λ k m. part k (begins_inside (length log) c.segment_records k i.segment_records.0 m);
   reads = all_read_back c log i f;
 }
   where
-    part : (k : ℕ) → k * c.segment_records < length log → AreTexts (batches_at c log k)
+    part : (k : ℕ) → k * c.segment_records < length log → AreTexts (batches_at c p es log k)
     part k m =
         let t = length-take c.segment_records (drop (k * c.segment_records) log) in
         let d = length-drop (k * c.segment_records) log in
-        are_texts c 0 (k * c.segment_records) (part_at c log k) i (omega (arith, t, d, m, l))
+        are_texts c p es 0 (k * c.segment_records) (part_at c log k) i g (omega (arith, t, d, m, l))
         (All-take (IsFit c) c.segment_records (drop (k * c.segment_records) log) (all_drop (IsFit c) (k * c.segment_records) log f))
         (All-take HasBytes c.segment_records (drop (k * c.segment_records) log) (all_drop HasBytes (k * c.segment_records) log h))

@@ -50,10 +50,10 @@ use Rattle.eos_simulate.proofs.LogTouches.{each_fits, none_open}
 
 -- the batches of the log at a place, as they are written
 abbrev written : Config → World → ℕ → List Batch
-written c w p = all_batches c (log_at w p)
+written c w p = all_batches c p w.elections (log_at w p)
 
-front : (c : Config) (w : World) (p : ℕ) → IsSettled c w → p < log_count c → IsFront 0 (log_segments c p (log_at w p)) (written c w p) AtEnd
-front c w p s l = whole_front c p (log_at w p) s.config (s.written p l)
+front : (c : Config) (w : World) (p : ℕ) → IsSettled c w → p < log_count c → IsFront 0 (log_segments c p w.elections (log_at w p)) (written c w p) AtEnd
+front c w p s l = whole_front c p w.elections (log_at w p) s.config (s.written p l)
 
 -- whether the last touch is open is the same of a batch and of its records one by one
 is_open_too : (o p : Option Touch) → option_map is_open o ≡ option_map is_open p → IsOpen o → IsOpen p
@@ -74,13 +74,13 @@ no_fault c w p s l fault h = none_of fault.offset fault.kind h.stands
     bs = written c w p
 
     agrees : Agrees (written c w p) (log_batches c w p)
-    agrees = all_agree c (log_at w p) s.config
+    agrees = all_agree c p w.elections (log_at w p) s.config
 
     checked : Bool
     checked = not (is_internal (topic_of c p))
 
     some : EachHasRecords bs
-    some = have_records bs (right_front 0 (log_segments c p (log_at w p)) bs AtEnd (front c w p s l))
+    some = have_records bs (right_front 0 (log_segments c p w.elections (log_at w p)) bs AtEnd (front c w p s l))
 
     rules : (id : ℤ) → IsSequencedIf checked (touches_of id bs) × Fenced (touches_of id bs)
     rules id = (neighbours checked (touches_of id bs) (touches_have_records id bs some)).0 (subst (λ b. EachAfter (Accepts b) None (touches_of id bs)) (sym (sequenced_is c p)) (agrees.follows (is_sequenced c p) id None (each_fits c w p id s.fit)))
@@ -89,19 +89,19 @@ no_fault c w p s l fault h = none_of fault.offset fault.kind h.stands
     none_of offset (BadBatch segment byte f) k = absurd (let e = k.0 in cc)
     none_of offset (Gap found) k = absurd (let e = k.0 in cc)
     none_of offset (Pair f producer) k = no_pair checked bs some rules k.before k.here k.after producer k.next f k.parts k.touch k.wrong
-    none_of offset (End declared) k = k.1 (ap pos (records_are c (log_at w p) s.config))
+    none_of offset (End declared) k = k.1 (ap pos (records_are c p w.elections (log_at w p) s.config))
     none_of offset (OpenAtEnd producer) k = none_open c (log_at w p) producer p (decisions_of c w) (λ a. (s.atomic a).matched p) (is_open_too _ _ (agrees.opens producer) k.1)
 
-place_keeps : (c : Config) (w : World) (p : ℕ) → IsSettled c w → p < log_count c → KeepsRules (topic_of c p) (pos (length (log_at w p))) (log_segments c p (log_at w p)) (written c w p)
-place_keeps c w p s l = (rules_law (topic_of c p) (pos (number_of c p)) (pos (length (log_at w p))) (log_segments c p (log_at w p)) (written c w p) AtEnd (front c w p s l)).0 (no_fault c w p s l)
+place_keeps : (c : Config) (w : World) (p : ℕ) → IsSettled c w → p < log_count c → KeepsRules (topic_of c p) (pos (length (log_at w p))) (log_segments c p w.elections (log_at w p)) (written c w p)
+place_keeps c w p s l = (rules_law (topic_of c p) (pos (number_of c p)) (pos (length (log_at w p))) (log_segments c p w.elections (log_at w p)) (written c w p) AtEnd (front c w p s l)).0 (no_fault c w p s l)
 
 -- ---- the logs of the evidence are these
 
 abbrev Same : Config → World → ℕ → List Batch → Stop → Type 0
 Same c w p bs stop = (bs ≡ written c w p) × (stop ≡ AtEnd)
 
-same_front : (c : Config) (w : World) (p : ℕ) (bs : List Batch) (stop : Stop) → IsSettled c w → p < log_count c → IsFront 0 (log_segments c p (log_at w p)) bs stop → Same c w p bs stop
-same_front c w p bs stop s l f = one_front 0 (log_segments c p (log_at w p)) bs (written c w p) stop AtEnd f (front c w p s l)
+same_front : (c : Config) (w : World) (p : ℕ) (bs : List Batch) (stop : Stop) → IsSettled c w → p < log_count c → IsFront 0 (log_segments c p w.elections (log_at w p)) bs stop → Same c w p bs stop
+same_front c w p bs stop s l f = one_front 0 (log_segments c p w.elections (log_at w p)) bs (written c w p) stop AtEnd f (front c w p s l)
 
 abbrev IsPlaceOf : Config → World → Partition → Type 0
 IsPlaceOf c w p = (q : ℕ) × (q < log_count c) × (p ≡ partition_at c w q)
@@ -114,7 +114,7 @@ keeps c w p l of s q =
       batches = of.batches;
       read = of.log;
       rules = subst (λ x. KeepsRules x.end.topic x.end.end x.segments of.batches) (sym e)
-          (subst (KeepsRules (topic_of c q.0) (pos (length (log_at w q.0))) (log_segments c q.0 (log_at w q.0))) (sym same.0) (place_keeps c w q.0 s q.1));
+          (subst (KeepsRules (topic_of c q.0) (pos (length (log_at w q.0))) (log_segments c q.0 w.elections (log_at w q.0))) (sym same.0) (place_keeps c w q.0 s q.1));
     }
 
 each_keeps : (c : Config) (w : World) (ps : List Partition) (ls : List PartLog) → AreLogsOf ps ls → IsSettled c w → ((p : Partition) → Has ps p → IsPlaceOf c w p) → AreKeptLogs ps ls
@@ -137,7 +137,7 @@ all_keep c w ps ls of s e = each_keeps c w ps ls of s (λ p h. each_is c w 0 (lo
 is_log : (c : Config) (w : World) (p : ℕ) (l : PartLog) → IsSettled c w → p < log_count c → IsLogOf (partition_at c w p) l → IsLog c w p l
 is_log c w p l s m of =
     let same = same_front c w p of.batches of.stop s m of.front in
-    let a = all_agree c (log_at w p) s.config in
+    let a = all_agree c p w.elections (log_at w p) s.config in
     record {
       topic = of.log.of_topic;
       number = of.log.of_number;

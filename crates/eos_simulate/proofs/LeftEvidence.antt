@@ -14,6 +14,7 @@ use Rattle.eos_machine.specs.Switching.{none}
 use Rattle.eos_machine.specs.SwitchedSchedules.{all_under}
 use Rattle.eos_machine.specs.World.{World, opening, log_at}
 use Rattle.eos_machine.specs.Machine.{world_after, world_under}
+use Rattle.eos_machine.specs.Elections.{LosesNothing}
 use Rattle.eos_machine.specs.Rest.{IsAtRest}
 use Rattle.eos_machine.proofs.Computed.{none_is}
 use Rattle.eos_machine.specs.Evidences.{parts_of, HasRoomForAll}
@@ -45,6 +46,7 @@ one_topic (events.TimeOut a) h = tt
 one_topic (events.AddPartition n p) h = tt
 one_topic (events.WriteMarker n) h = tt
 one_topic (events.Complete a) h = tt
+one_topic (events.Elect t p k) h = tt
 
 item_bytes : (c : Config) (x : Item) → KeptItem IsBytes c x → HasBytes x
 item_bytes c (Fed n) h = tt
@@ -68,7 +70,7 @@ leaves c xs i b r =
         spec = parts_of c w;
         accepted = accepted_parts c w i g.short;
         added = a.is;
-        written = λ p l. have_texts c (log_at w p) i (g.short p) (g.fit p) (All-weaker (KeptItem IsBytes c) HasBytes (item_bytes c) (log_at w p) (log_kept IsBytes c (2 * w.events) w p k.kept));
+        written = λ p l. have_texts c p w.elections (log_at w p) i g.elections (g.short p) (g.fit p) (All-weaker (KeptItem IsBytes c) HasBytes (item_bytes c) (log_at w p) (log_kept IsBytes c (2 * w.events) w p k.kept));
       };
     }
 
@@ -78,9 +80,9 @@ none_bytes : (es : List Event) → All SendsBytes es → All (λ x. SendsBytes x
 none_bytes [] h = All-nil (λ x. SendsBytes x.1)
 none_bytes (e ∷ es) h = All-cons (λ x. SendsBytes x.1) (none, e) (all_under none es) (All-head SendsBytes e es h) (none_bytes es (All-tail SendsBytes e es h))
 
-of_schedule : (c : Config) (es : List Event) → IsConfig c → IsAtRest (world_after c (opening c) es) → LeavesEvidence c (world_after c (opening c) es) → LeavesRightEvidence c (world_after c (opening c) es)
-of_schedule c es i h l =
-    let s : IsOfSchedule l.evidence = record { config = c; world = world_after c (opening c) es; events = es; sizes = i; world_after = refl; rest = h; evidence = l.of_logs } in
+of_schedule : (c : Config) (es : List Event) → IsConfig c → LosesNothing (world_after c (opening c) es) → IsAtRest (world_after c (opening c) es) → LeavesEvidence c (world_after c (opening c) es) → LeavesRightEvidence c (world_after c (opening c) es)
+of_schedule c es i n h l =
+    let s : IsOfSchedule l.evidence = record { config = c; world = world_after c (opening c) es; events = es; sizes = i; world_after = refl; lossless = n; rest = h; evidence = l.of_logs } in
     record {
       evidence = l.evidence;
       is_evidence = l.is_evidence;
@@ -90,7 +92,7 @@ of_schedule c es i h l =
       faultless = no_fault_in_logs l.evidence l.is_evidence s;
     }
 
-pub leaves_right : (c : Config) (es : List Event) → IsConfig c → All SendsBytes es → IsAtRest (world_after c (opening c) es) → HasRoomForAll c (world_after c (opening c) es) → LeavesRightEvidence c (world_after c (opening c) es)
-leaves_right c es i b h r =
+pub leaves_right : (c : Config) (es : List Event) → IsConfig c → All SendsBytes es → LosesNothing (world_after c (opening c) es) → IsAtRest (world_after c (opening c) es) → HasRoomForAll c (world_after c (opening c) es) → LeavesRightEvidence c (world_after c (opening c) es)
+leaves_right c es i b n h r =
     let e = none_is c (opening c) es in
-    of_schedule c es i h (subst (LeavesEvidence c) e (leaves c (all_under none es) i (none_bytes es b) (subst (HasRoomForAll c) (sym e) r)))
+    of_schedule c es i n h (subst (LeavesEvidence c) e (leaves c (all_under none es) i (none_bytes es b) (subst (HasRoomForAll c) (sym e) r)))

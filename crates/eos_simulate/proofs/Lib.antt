@@ -4,6 +4,7 @@ pub mod Placing
 pub mod Singles
 pub mod Joining
 pub mod Agreeing
+mod LedBatches
 pub mod WholeFronts
 pub mod LogTouches
 pub mod TxnRecords

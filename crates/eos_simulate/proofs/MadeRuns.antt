@@ -9,7 +9,7 @@ use Rattle.eos_machine.specs.Switching.{any_on}
 use Rattle.eos_drive.specs.declared.deed.Deed.{Deed}
 use Rattle.eos_history_lines.specs.declared.line.Head.{Head}
 use Rattle.eos_history_lines.specs.declared.schedule.Schedule.{Schedule}
-use Rattle.eos_simulate.specs.Histories.{IsLeftBy, HasBroken, IsAsSaid, acts_of, acts_said, FitsTotals}
+use Rattle.eos_simulate.specs.Histories.{IsLeftBy, HasBroken, LoseNothing, IsAsSaid, acts_of, acts_said, FitsTotals}
 use Rattle.eos_simulate.specs.HistoryTexts.{IsHistoryIf}
 use Rattle.eos_simulate.specs.LabelTexts.{AreLabelsIf}
 use Rattle.eos_simulate.specs.declared.made.WantedTexts.{WantedTexts}
@@ -17,15 +17,15 @@ use Rattle.eos_simulate.specs.Schedules.{HasRightLogs, HasNoFaultInLogs}
 use Rattle.eos_simulate.specs.Folders.{Texts, IsOfScript, IsOfLines}
 
 pub of_script : (c : Config) (u : Switches) (stops : Bool) (h : Head) (keeps : WantedTexts) (before deeds : List Deed) (e : EvidenceParts) (texts : Texts) → before ≡ [] → (before ≡ [] → IsLeftBy c deeds e)
-    → HasBroken u deeds → (stops ≡ false → any_on u ≡ false → IsOfSchedule e) → (stops ≡ false → any_on u ≡ false → HasRightLogs e) → (stops ≡ false → any_on u ≡ false → HasNoFaultInLogs e) → IsHistoryIf keeps.history h deeds texts.0
+    → HasBroken u deeds → (before ≡ [] → stops ≡ false → any_on u ≡ false → LoseNothing c deeds → IsOfSchedule e) → (before ≡ [] → stops ≡ false → any_on u ≡ false → LoseNothing c deeds → HasRightLogs e) → (before ≡ [] → stops ≡ false → any_on u ≡ false → LoseNothing c deeds → HasNoFaultInLogs e) → IsHistoryIf keeps.history h deeds texts.0
     → AreLabelsIf keeps.labels c stops deeds texts.1 → IsOfScript c u stops h keeps e texts
 of_script c u stops h keeps before deeds e texts none left broken schedule right faultless history labels = record {
   deeds = deeds;
   left = left none;
   broken = broken;
-  schedule = schedule;
-  right = right;
-  faultless = faultless;
+  schedule = schedule none;
+  right = right none;
+  faultless = faultless none;
   texts_are = (history, labels);
 }
 

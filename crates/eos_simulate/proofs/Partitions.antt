@@ -28,7 +28,7 @@ use Rattle.eos_machine.specs.Evidences.{end_of, parts_of, segment_count, segment
 use Rattle.eos_machine.proofs.PlaceNames.{one_place, ends_rise}
 
 abbrev pub partition_at : Config → World → ℕ → Partition
-partition_at c w p = record { end = end_of c w p; segments = log_segments c p (log_at w p) }
+partition_at c w p = record { end = end_of c w p; segments = log_segments c p w.elections (log_at w p) }
 
 -- ---- what segments more make of the partitions
 
@@ -102,10 +102,10 @@ ordered_is c w a (suc (suc n)) i =
 number_is : (m n : ℕ) → pos m ≡ pos n → m ≡ n
 number_is m n e = ap unsigned_abs e
 
-own_segment : (c : Config) (w : World) (q : ℕ) (log : List Item) (i : ℕ) → is_in (segment_at c q log i) (end_of c w q) ≡ true
+own_segment : (c : Config) (w : World) (q : ℕ) (log : List Item) (i : ℕ) → is_in (segment_at c q w.elections log i) (end_of c w q) ≡ true
 own_segment c w q log i = and_from _ _ ((bytes_eq-Decides (topic_of c q) (topic_of c q)).1 refl) ((Decides-int_eq (pos (number_of c q)) (pos (number_of c q))).1 refl)
 
-other_segment : (c : Config) (w : World) (p q : ℕ) (log : List Item) (i : ℕ) → (p ≡ q → ⊥) → is_in (segment_at c p log i) (end_of c w q) ≡ false
+other_segment : (c : Config) (w : World) (p q : ℕ) (log : List Item) (i : ℕ) → (p ≡ q → ⊥) → is_in (segment_at c p w.elections log i) (end_of c w q) ≡ false
 other_segment c w p q log i d = false_from_ne_true _ (λ h.
     let b = and_parts (bytes_eq (topic_of c p) (topic_of c q)) (int_eq (pos (number_of c p)) (pos (number_of c q))) h in
     d (one_place c p q ((bytes_eq-Decides (topic_of c p) (topic_of c q)).0 b.0) (number_is (number_of c p) (number_of c q) ((Decides-int_eq (pos (number_of c p)) (pos (number_of c q))).0 b.1))))
@@ -113,10 +113,10 @@ other_segment c w p q log i d = false_from_ne_true _ (λ h.
 abbrev held : Config → World → ℕ → List Segment → Partition
 held c w q xs = record { end = end_of c w q; segments = xs }
 
-passed_by : (c : Config) (w : World) (p q : ℕ) (log : List Item) (ks : List ℕ) (xs : List Segment) → (p ≡ q → ⊥) → with_all (map (segment_at c p log) ks) (held c w q xs) ≡ held c w q xs
+passed_by : (c : Config) (w : World) (p q : ℕ) (log : List Item) (ks : List ℕ) (xs : List Segment) → (p ≡ q → ⊥) → with_all (map (segment_at c p w.elections log) ks) (held c w q xs) ≡ held c w q xs
 passed_by c w p q log [] xs d = refl
 passed_by c w p q log (k ∷ ks) xs d =
-    ap (with_all (map (segment_at c p log) ks)) (ap (λ b. if b then held c w q (insert_segment (segment_at c p log k) xs) else held c w q xs) (other_segment c w p q log k d))
+    ap (with_all (map (segment_at c p w.elections log) ks)) (ap (λ b. if b then held c w q (insert_segment (segment_at c p w.elections log k) xs) else held c w q xs) (other_segment c w p q log k d))
     ∙ passed_by c w p q log ks xs d
 
 -- the bases of these are at most this number
@@ -152,19 +152,19 @@ more_segments i n = let e : (i + 1) * n ≡ i * n + n = times_more i n in omega 
     times_more (suc i) n = let e = times_more i n in omega (arith, e)
 
 taken_in : (c : Config) (w : World) (q : ℕ) (log : List Item) (i k : ℕ) (xs : List Segment) → AreUpTo (i * c.segment_records) xs
-    → with_all (map (segment_at c q log) (range_with_len i k)) (held c w q xs) ≡ held c w q (xs ++ map (segment_at c q log) (range_with_len i k))
+    → with_all (map (segment_at c q w.elections log) (range_with_len i k)) (held c w q xs) ≡ held c w q (xs ++ map (segment_at c q w.elections log) (range_with_len i k))
 taken_in c w q log i zero xs h = ap (held c w q) (sym (append-nil xs))
 taken_in c w q log i (suc k) xs h =
-    let s : Segment = segment_at c q log i in
-    ap (with_all (map (segment_at c q log) (range_with_len (i + 1) k)))
+    let s : Segment = segment_at c q w.elections log i in
+    ap (with_all (map (segment_at c q w.elections log) (range_with_len (i + 1) k)))
     (ap (λ b. if b then held c w q (insert_segment s xs) else held c w q xs) (own_segment c w q log i) ∙ ap (held c w q) (insert_last s (i * c.segment_records) xs refl h))
     ∙ (taken_in c w q log (i + 1) k (xs ++ s ∷ []) (up_to_more (i * c.segment_records) ((i + 1) * c.segment_records) xs s refl (more_segments i c.segment_records) h)
-    ∙ ap (held c w q) (append_assoc xs (s ∷ []) (map (segment_at c q log) (range_with_len (i + 1) k))))
+    ∙ ap (held c w q) (append_assoc xs (s ∷ []) (map (segment_at c q w.elections log) (range_with_len (i + 1) k))))
 
 -- ---- all places
 
 abbrev segments_at : Config → World → ℕ → List Segment
-segments_at c w p = log_segments c p (log_at w p)
+segments_at c w p = log_segments c p w.elections (log_at w p)
 
 behind : (c : Config) (w : World) (q a n : ℕ) (xs : List Segment) → q < a → with_all (flat_map (segments_at c w) (range_with_len a n)) (held c w q xs) ≡ held c w q xs
 behind c w q a zero xs l = refl

@@ -1,8 +1,8 @@
 -- Which items stand at which place, whatever happens.
-use Rattle.std.proofs.Common.{◌≡◌, ℕ, ℤ, pos, negsuc, zero, suc, ◌+◌, ◌<◌, ◌==◌, ◌&&◌, not, Bool, true, false, List, [], ◌∷◌, ◌++◌, length, replicate, Option, Some, None, refl, sym, ap, subst, ◌∙◌, arith, inl, inr, ◌⊎◌, slice_index_or, slice_set, if◌then◌else◌}
+use Rattle.std.proofs.Common.{◌≡◌, ℕ, ℤ, pos, negsuc, zero, suc, ◌+◌, ◌<◌, ◌==◌, ◌&&◌, not, Bool, true, false, List, [], ◌∷◌, ◌++◌, length, take, replicate, Option, Some, None, refl, sym, ap, subst, ◌∙◌, arith, inl, inr, ◌⊎◌, slice_index_or, slice_set, if◌then◌else◌}
 use Rattle.std.specs.Prelude.{slice_get, ⊤}
 use Rattle.std.specs.List.{All}
-use Rattle.std.proofs.lemmas.List.Elements.{All-nil, All-push}
+use Rattle.std.proofs.lemmas.List.Elements.{All-nil, All-push, All-take}
 use Rattle.eos_batch.specs.declared.marker.Kind.{Kind}
 use Rattle.eos_batch.specs.declared.marker.Kind.TheVariants.{Abort}
 use Rattle.eos_machine.specs.declared.config.Config.{Config}
@@ -24,6 +24,7 @@ use Rattle.eos_machine.specs.Tests.{is_ongoing, has, ongoing_partitions}
 use Rattle.eos_machine.specs.Answers.{Answer, when}
 use Rattle.eos_machine.specs.Sessions.{produce, commit_offset, commit, end_session, resume_ended, resume, fetch}
 use Rattle.eos_machine.specs.Deliveries.{with_partition, accept, ticked_off, deliver, write_marker, complete_prepared}
+use Rattle.eos_machine.specs.Elections.{electable_at, elect}
 use Rattle.eos_machine.proofs.Written.{written_after}
 use Rattle.eos_machine.specs.Machine.{start_session, start, counted, step, world_after, add_partition}
 use Rattle.eos_machine.specs.steps.Machine.{happens}
@@ -148,6 +149,13 @@ placed_added : (c : Config) (w : World) (p : Option ℕ) (r : Option Session) �
 placed_added c w p None h = h
 placed_added c w p (Some s) h = placed_if c _ _ _ h (placed_if c _ _ _ h (placed_if c _ _ _ h (placed_if c _ _ _ h (placed_partition c w s.application (target_index c s.application p) h))))
 
+placed_elected : (c : Config) (w : World) (k : ℕ) (r : Option ℕ) → Placed c w → Placed c (elect w k r).0
+placed_elected c w k None h = h
+placed_elected c w k (Some q) h = placed_if c _ _ _ h (placed_if c _ _ _ h (λ p. elim (set_or w.logs q (take k (log_at w q)) p []) [
+  | inl e ↦ subst (All (IsHere c p)) (sym e) (h p)
+  | inr e ↦ subst (All (IsHere c p)) (sym e.1) (subst (λ r. All (IsHere c r) (take k (log_at w q))) (sym e.0) (All-take (IsHere c q) k (log_at w q) (h q)))
+]))
+
 placed_event : (c : Config) (w : World) (e : Event) → Placed c w → Placed c (happens c w e).0
 placed_event c w (events.Feed p) h = placed_if c _ _ _ h (placed_item c w (input_index c p) (Fed w.events) h (omega arith))
 placed_event c w (events.Start a) h = placed_start c w a h
@@ -164,6 +172,7 @@ placed_event c w (events.TimeOut a) h = placed_if c _ _ _ h (placed_if c _ _ _ h
 placed_event c w (events.AddPartition m p) h = placed_added c w p (slice_get w.sessions m) h
 placed_event c w (events.WriteMarker m) h = placed_writing c w (slice_get w.messages m) h
 placed_event c w (events.Complete a) h = placed_if c _ _ _ h (placed_completed c w a (coord_at w a).status h)
+placed_event c w (events.Elect t p k) h = placed_elected c w k (electable_at c t p) h
 
 pub placed_run : (c : Config) (w : World) (es : List Event) → Placed c w → Placed c (world_after c w es)
 placed_run c w [] h = h

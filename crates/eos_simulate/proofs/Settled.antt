@@ -27,7 +27,7 @@ pub record IsSettled (c : Config) (w : World) : Type 0 where
   pub config : IsConfig c
   pub fit : NeighboursFit c w
   pub atomic : AllAtomic c w
-  pub written : (p : ℕ) → p < log_count c → HaveTexts c (log_at w p)
+  pub written : (p : ℕ) → p < log_count c → HaveTexts c p w.elections (log_at w p)
   pub steps : StepsFit c w
   pub rest : IsAtRest w
   pub good : Good c w

@@ -15,10 +15,12 @@ use Rattle.eos_fold.specs.Fronts.{IsFront}
 use Rattle.eos_machine.specs.declared.config.Config.{Config}
 use Rattle.eos_machine.specs.LogIndexes.{IsConfig}
 use Rattle.eos_machine.specs.declared.item.Item.{Item}
-use Rattle.eos_machine.specs.Batches.{batches_from, texts_of, AreTexts}
+use Rattle.eos_machine.specs.declared.state.Election.{Election}
+use Rattle.eos_machine.specs.Batches.{batches_from, led, texts_of, AreTexts}
 use Rattle.eos_machine.specs.Evidences.{segment_count, batches_at, segment_at, log_segments, HaveTexts}
 use Rattle.eos_simulate.proofs.Singles.{item_batch, singles_from}
 use Rattle.eos_simulate.proofs.Agreeing.{Agrees, agrees_nil, items_agree}
+use Rattle.eos_simulate.proofs.LedBatches.{agrees_on, led_agrees}
 
 -- ---- the items as batches of their own
 
@@ -44,6 +46,11 @@ alone c o xs = subst (λ bs. Agrees bs (singles_from c o xs)) (append-nil (batch
 splits : (bs : List Batch) → AreTexts bs → Splits (texts_of bs) bs []
 splits [] h = refl
 splits (b ∷ bs) h = (batch_text_of b, texts_of bs, h.0, refl, splits bs h.1)
+
+-- in their leader epochs
+led_alone : (p : ℕ) (es : List Election) (bs cs : List Batch) → Agrees bs cs → Agrees (map (led p es) bs) cs
+led_alone p es bs cs a =
+    agrees_on (map (led p es) bs) bs cs (subst (λ xs. Agrees xs bs) (append-nil (map (led p es) bs)) (subst (Agrees (map (led p es) bs ++ [])) (append-nil bs) (led_agrees p es bs []))) a
 
 -- ---- segment by segment
 
@@ -73,8 +80,8 @@ record IsRest (c : Config) (log : List Item) (k i o : ℕ) (rest : List Item) : 
   of : rest ≡ drop o log
   left : IsLeft c k rest
 
-part_is : (c : Config) (log : List Item) (k i o : ℕ) (rest : List Item) → IsRest c log k i o rest → batches_at c log i ≡ batches_from c o (take c.segment_records rest)
-part_is c log k i o rest h = ap (λ j. batches_from c j (take c.segment_records (drop j log))) (sym h.at) ∙ ap (λ xs. batches_from c o (take c.segment_records xs)) (sym h.of)
+part_is : (c : Config) (p : ℕ) (es : List Election) (log : List Item) (k i o : ℕ) (rest : List Item) → IsRest c log k i o rest → batches_at c p es log i ≡ map (led p es) (batches_from c o (take c.segment_records rest))
+part_is c p es log k i o rest h = ap (λ j. map (led p es) (batches_from c j (take c.segment_records (drop j log)))) (sym h.at) ∙ ap (λ xs. map (led p es) (batches_from c o (take c.segment_records xs))) (sym h.of)
 
 rest_next : (c : Config) (log : List Item) (k i o : ℕ) (rest : List Item) → IsRest c log (suc k) i o rest → IsRest c log k (i + 1) (o + c.segment_records) (drop c.segment_records rest)
 rest_next c log k i o rest h = record {
@@ -98,29 +105,31 @@ singles_part c o n rest = elim (cases_lt (length rest) n) [
     whole = ap (singles_from c o) (sym (take-append-drop n rest)) ∙ singles_append c o (take n rest) (drop n rest)
 
 -- the batches of so many segments from this one on
-abbrev batches_in : Config → List Item → ℕ → ℕ → List Batch
-batches_in c log i k = flat_map (batches_at c log) (range_with_len i k)
+abbrev batches_in : Config → ℕ → List Election → List Item → ℕ → ℕ → List Batch
+batches_in c p es log i k = flat_map (batches_at c p es log) (range_with_len i k)
 
-agree_from : (c : Config) (log : List Item) (k i o : ℕ) (rest : List Item) → IsRest c log k i o rest → Agrees (batches_in c log i k) (singles_from c o rest)
-agree_from c log zero i o rest h = subst (λ xs. Agrees [] (singles_from c o xs)) (sym h.left) agrees_nil
-agree_from c log (suc k) i o rest h =
+agree_from : (c : Config) (p : ℕ) (es : List Election) (log : List Item) (k i o : ℕ) (rest : List Item) → IsRest c log k i o rest → Agrees (batches_in c p es log i k) (singles_from c o rest)
+agree_from c p es log zero i o rest h = subst (λ xs. Agrees [] (singles_from c o xs)) (sym h.left) agrees_nil
+agree_from c p es log (suc k) i o rest h =
     let n : ℕ = c.segment_records in
-    let others = agree_from c log k (i + 1) (o + n) (drop n rest) (rest_next c log k i o rest h) in
-    subst (λ bs. Agrees (bs ++ batches_in c log (i + 1) k) (singles_from c o rest)) (sym (part_is c log (suc k) i o rest h))
-    (subst (Agrees (batches_from c o (take n rest) ++ batches_in c log (i + 1) k)) (sym (singles_part c o n rest))
-    (items_agree c o (take n rest) (batches_in c log (i + 1) k) (singles_from c (o + n) (drop n rest)) others))
+    let others = agree_from c p es log k (i + 1) (o + n) (drop n rest) (rest_next c log k i o rest h) in
+    subst (λ bs. Agrees (bs ++ batches_in c p es log (i + 1) k) (singles_from c o rest)) (sym (part_is c p es log (suc k) i o rest h))
+    (agrees_on (map (led p es) (batches_from c o (take n rest)) ++ batches_in c p es log (i + 1) k) (batches_from c o (take n rest) ++ batches_in c p es log (i + 1) k) (singles_from c o rest)
+    (led_agrees p es (batches_from c o (take n rest)) (batches_in c p es log (i + 1) k))
+    (subst (Agrees (batches_from c o (take n rest) ++ batches_in c p es log (i + 1) k)) (sym (singles_part c o n rest))
+    (items_agree c o (take n rest) (batches_in c p es log (i + 1) k) (singles_from c (o + n) (drop n rest)) others)))
 
 -- the front of one segment, and that of those behind it
-front_step : (c : Config) (p : ℕ) (log : List Item) (k i o : ℕ) (rest : List Item) → IsRest c log (suc k) i o rest → AreTexts (batches_at c log i)
-    → IsFront (o + c.segment_records) (map (segment_at c p log) (range_with_len (i + 1) k)) (batches_in c log (i + 1) k) AtEnd
-    → IsFront o (map (segment_at c p log) (range_with_len i (suc k))) (batches_in c log i (suc k)) AtEnd
-front_step c p log k i o rest h w next =
+front_step : (c : Config) (p : ℕ) (es : List Election) (log : List Item) (k i o : ℕ) (rest : List Item) → IsRest c log (suc k) i o rest → AreTexts (batches_at c p es log i)
+    → IsFront (o + c.segment_records) (map (segment_at c p es log) (range_with_len (i + 1) k)) (batches_in c p es log (i + 1) k) AtEnd
+    → IsFront o (map (segment_at c p es log) (range_with_len i (suc k))) (batches_in c p es log i (suc k)) AtEnd
+front_step c p es log k i o rest h w next =
     inr (
       sym h.at,
-      batches_at c log i,
+      batches_at c p es log i,
       AtEnd,
-      record { rest = []; texts = splits (batches_at c log i) w; continuous = subst (ContinuesFrom o) (sym is) (agrees.continues o (singles_continue c o m)); stops = refl },
-      (batches_in c log (i + 1) k, refl, subst (λ j. Behind (o + j)) (sym counted) others),
+      record { rest = []; texts = splits (batches_at c p es log i) w; continuous = subst (ContinuesFrom o) (sym is) (agrees.continues o (singles_continue c o m)); stops = refl },
+      (batches_in c p es log (i + 1) k, refl, subst (λ j. Behind (o + j)) (sym counted) others),
     )
   where
     n : ℕ
@@ -130,18 +139,18 @@ front_step c p log k i o rest h w next =
     m = take n rest
 
     Behind : ℕ → Type 0
-    Behind at = IsFront at (map (segment_at c p log) (range_with_len (i + 1) k)) (batches_in c log (i + 1) k) AtEnd
+    Behind at = IsFront at (map (segment_at c p es log) (range_with_len (i + 1) k)) (batches_in c p es log (i + 1) k) AtEnd
 
-    is : batches_at c log i ≡ batches_from c o m
-    is = part_is c log (suc k) i o rest h
+    is : batches_at c p es log i ≡ map (led p es) (batches_from c o m)
+    is = part_is c p es log (suc k) i o rest h
 
-    agrees : Agrees (batches_from c o m) (singles_from c o m)
-    agrees = alone c o m
+    agrees : Agrees (map (led p es) (batches_from c o m)) (singles_from c o m)
+    agrees = led_alone p es (batches_from c o m) (singles_from c o m) (alone c o m)
 
-    counted : records_in (batches_at c log i) ≡ length m
+    counted : records_in (batches_at c p es log i) ≡ length m
     counted = ap records_in is ∙ (agrees.records ∙ singles_count c o m)
 
-    last : (k : ℕ) → IsLeft c (suc k) rest → length rest ≤ n → IsFront (o + length m) (map (segment_at c p log) (range_with_len (i + 1) k)) (batches_in c log (i + 1) k) AtEnd
+    last : (k : ℕ) → IsLeft c (suc k) rest → length rest ≤ n → IsFront (o + length m) (map (segment_at c p es log) (range_with_len (i + 1) k)) (batches_in c p es log (i + 1) k) AtEnd
     last zero l s = (refl, refl)
     last (suc j) l s = absurd (omega (arith, l.0, s))
 
@@ -151,12 +160,12 @@ front_step c p log k i o rest h w next =
       | inr f ↦ subst (λ j. Behind (o + j)) (sym (length_take n rest f)) next
     ]
 
-goes_on : (c : Config) (p : ℕ) (log : List Item) (k i o : ℕ) (rest : List Item) → IsRest c log k i o rest → ((j : ℕ) → j < i + k → AreTexts (batches_at c log j))
-    → IsFront o (map (segment_at c p log) (range_with_len i k)) (batches_in c log i k) AtEnd
-goes_on c p log zero i o rest h w = (refl, refl)
-goes_on c p log (suc k) i o rest h w =
-    front_step c p log k i o rest h (w i (omega arith))
-    (goes_on c p log k (i + 1) (o + c.segment_records) (drop c.segment_records rest) (rest_next c log k i o rest h) (λ j l. w j (omega (arith, l))))
+goes_on : (c : Config) (p : ℕ) (es : List Election) (log : List Item) (k i o : ℕ) (rest : List Item) → IsRest c log k i o rest → ((j : ℕ) → j < i + k → AreTexts (batches_at c p es log j))
+    → IsFront o (map (segment_at c p es log) (range_with_len i k)) (batches_in c p es log i k) AtEnd
+goes_on c p es log zero i o rest h w = (refl, refl)
+goes_on c p es log (suc k) i o rest h w =
+    front_step c p es log k i o rest h (w i (omega arith))
+    (goes_on c p es log k (i + 1) (o + c.segment_records) (drop c.segment_records rest) (rest_next c log k i o rest h) (λ j l. w j (omega (arith, l))))
 
 -- ---- as many segments as it takes
 
@@ -172,8 +181,8 @@ is_left c (x ∷ xs) zero h = absurd (let l = h.0 in omega (arith, l))
 is_left c log (suc k) h = (h.1 k refl, omega (arith, h.0))
 
 -- all batches of a log
-abbrev pub all_batches : Config → List Item → List Batch
-all_batches c log = batches_in c log 0 (segment_count c (length log))
+abbrev pub all_batches : Config → ℕ → List Election → List Item → List Batch
+all_batches c p es log = batches_in c p es log 0 (segment_count c (length log))
 
 whole : (c : Config) (log : List Item) → IsConfig c → IsRest c log (segment_count c (length log)) 0 0 log
 whole c log i =
@@ -186,11 +195,11 @@ whole c log i =
     }
 
 -- the front of a log's segments, begun at 0
-pub whole_front : (c : Config) (p : ℕ) (log : List Item) → IsConfig c → HaveTexts c log → IsFront 0 (log_segments c p log) (all_batches c log) AtEnd
-whole_front c p log i w = goes_on c p log (segment_count c (length log)) 0 0 log (whole c log i) (λ j l. w.texts j (omega (arith, l)))
+pub whole_front : (c : Config) (p : ℕ) (es : List Election) (log : List Item) → IsConfig c → HaveTexts c p es log → IsFront 0 (log_segments c p es log) (all_batches c p es log) AtEnd
+whole_front c p es log i w = goes_on c p es log (segment_count c (length log)) 0 0 log (whole c log i) (λ j l. w.texts j (omega (arith, l)))
 
-pub all_agree : (c : Config) (log : List Item) → IsConfig c → Agrees (all_batches c log) (singles_from c 0 log)
-all_agree c log i = agree_from c log (segment_count c (length log)) 0 0 log (whole c log i)
+pub all_agree : (c : Config) (p : ℕ) (es : List Election) (log : List Item) → IsConfig c → Agrees (all_batches c p es log) (singles_from c 0 log)
+all_agree c p es log i = agree_from c p es log (segment_count c (length log)) 0 0 log (whole c log i)
 
-pub records_are : (c : Config) (log : List Item) → IsConfig c → records_in (all_batches c log) ≡ length log
-records_are c log i = (all_agree c log i).records ∙ singles_count c 0 log
+pub records_are : (c : Config) (p : ℕ) (es : List Election) (log : List Item) → IsConfig c → records_in (all_batches c p es log) ≡ length log
+records_are c p es log i = (all_agree c p es log i).records ∙ singles_count c 0 log

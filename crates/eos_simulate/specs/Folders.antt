@@ -23,7 +23,7 @@ use Rattle.eos_history_lines.specs.Files.{IsSchedule}
 use Rattle.eos_history_lines.specs.declared.line.Head.{Head}
 use Rattle.eos_history_lines.specs.declared.schedule.Schedule.{Schedule}
 use Rattle.eos_words.specs.declared.request.Simulation.{Simulation}
-use Rattle.eos_simulate.specs.Histories.{IsLeftBy, HasBroken, IsAsSaid, acts_of, acts_said, FitsTotals}
+use Rattle.eos_simulate.specs.Histories.{IsLeftBy, HasBroken, LoseNothing, IsAsSaid, acts_of, acts_said, FitsTotals}
 use Rattle.eos_simulate.specs.HistoryTexts.{IsHistoryIf}
 use Rattle.eos_simulate.specs.LabelTexts.{AreLabelsIf}
 use Rattle.eos_simulate.specs.declared.made.WantedTexts.{WantedTexts}
@@ -51,14 +51,14 @@ abbrev pub AreTextsOf : WantedTexts → Head → Config → Bool → List Deed �
 AreTextsOf keeps h c stops deeds texts = IsHistoryIf keeps.history h deeds texts.0 × AreLabelsIf keeps.labels c stops deeds texts.1
 
 -- a script's run, in a cluster of these sizes that breaks these rules, made this evidence, and these texts; where it doesn't stop after the
--- script it comes to rest
+-- script it comes to rest; of one without broken rules in which no election lost a record the logs are right
 pub record IsOfScript (c : Config) (u : Switches) (stops : Bool) (h : Head) (keeps : WantedTexts) (e : EvidenceParts) (texts : Texts) : Type 0 where
   pub deeds : List Deed
   pub left : IsLeftBy c deeds e
   pub broken : HasBroken u deeds
-  pub schedule : stops ≡ false → any_on u ≡ false → IsOfSchedule e
-  pub right : stops ≡ false → any_on u ≡ false → HasRightLogs e
-  pub faultless : stops ≡ false → any_on u ≡ false → HasNoFaultInLogs e
+  pub schedule : stops ≡ false → any_on u ≡ false → LoseNothing c deeds → IsOfSchedule e
+  pub right : stops ≡ false → any_on u ≡ false → LoseNothing c deeds → HasRightLogs e
+  pub faultless : stops ≡ false → any_on u ≡ false → LoseNothing c deeds → HasNoFaultInLogs e
   pub texts_are : AreTextsOf keeps h c stops deeds texts
 
 -- the run that these words ask for did

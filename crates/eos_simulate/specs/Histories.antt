@@ -13,7 +13,8 @@ use Rattle.eos_drive.specs.declared.deed.Deed.{Deed}
 use Rattle.eos_drive.specs.declared.deed.Deed.TheVariants as done
 use Rattle.eos_drive.specs.declared.deed.Note.{Note}
 use Rattle.eos_drive.specs.declared.deed.Note.TheVariants as notes
-use Rattle.eos_drive.specs.Driven.{Leads}
+use Rattle.eos_machine.specs.Elections.{LosesNothing}
+use Rattle.eos_drive.specs.Driven.{after, Leads}
 use Rattle.eos_drive.specs.Totals.{is_event, is_loss, is_repetition}
 use Rattle.eos_history_lines.specs.declared.line.Deed.{Deed as SaidDeed}
 use Rattle.eos_history_lines.specs.declared.line.Deed.TheVariants as said
@@ -31,6 +32,10 @@ pub record IsLeftBy (c : Config) (deeds : List Deed) (e : EvidenceParts) : Type 
   pub course : Course
   pub leads : Leads (new_course c) deeds course
   pub evidence : IsEvidenceOf course.config course.world e
+
+-- no election among these lost a record
+abbrev pub LoseNothing : Config → List Deed → Type 0
+LoseNothing c deeds = LosesNothing (after (new_course c) deeds).world
 
 -- and its switches were set to these, if any is on: the rules that it breaks are those that are asked for
 abbrev pub HasBroken : Switches → List Deed → Type 0

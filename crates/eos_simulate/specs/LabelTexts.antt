@@ -14,6 +14,7 @@ use Rattle.eos_drive.specs.Mishaps.{name_in}
 use Rattle.eos_drive.specs.declared.deed.Deed.{Deed}
 use Rattle.eos_simulate.specs.Labels.{AreLabelsOf}
 use Rattle.eos_simulate.specs.declared.labels.Label.{Label}
+use Rattle.eos_simulate.specs.declared.labels.LostTail.{LostTail}
 use Rattle.eos_simulate.specs.declared.labels.Taken.{Taken}
 use Rattle.eos_simulate.specs.declared.labels.Wrong.{Wrong}
 use Rattle.eos_simulate.specs.declared.labels.Wrong.TheVariants as wrongs
@@ -73,12 +74,22 @@ stop_codes = codes "[\"1.11\",\"2.5\",\"5.7\",\"5.11\"]"
 unfoldable pub stop_text : ℕ → List ℕ
 stop_text number = (codes "{\"codes\":" ++ stop_codes) ++ ((codes ",\"label\":\"stopped\",\"number\":" ++ decimal number) ++ codes "}\n")
 
+-- the codes of the faults that may follow where records were lost that were acknowledged
+unfoldable pub tail_codes : List ℕ
+tail_codes = codes "[\"1.6\",\"1.9\",\"1.11\",\"3.3\",\"3.7\",\"5.6\",\"5.7\",\"5.8\",\"5.10\",\"5.11\",\"5.12\"]"
+
+unfoldable pub tail_text : ℕ → LostTail → List ℕ
+tail_text number tail =
+    (codes "{\"codes\":" ++ tail_codes) ++ ((codes ",\"label\":\"unclean-election\",\"number\":" ++ decimal number) ++ ((codes ",\"offset\":" ++ decimal tail.offset)
+    ++ ((codes ",\"partition\":\"" ++ escaped tail.topic) ++ ((codes "-" ++ decimal tail.partition) ++ ((codes "\",\"records\":" ++ decimal tail.records) ++ codes "}\n")))))
+
 abbrev pub wrong_text : Config → ℕ → Wrong → List ℕ
 wrong_text c number (wrongs.Broken rule taken) = broken_text c number rule taken
 wrong_text c number (wrongs.Lost message) = network_text (codes "lost") number message
 wrong_text c number (wrongs.Repeated message) = network_text (codes "repeated") number message
 wrong_text c number (wrongs.Erred mishap) = mishap_text number (utf8_or_empty mishap)
 wrong_text c number wrongs.Stopped = stop_text number
+wrong_text c number (wrongs.Unclean tail) = tail_text number tail
 
 abbrev pub label_text : Config → Label → List ℕ
 label_text c label = wrong_text c label.number label.wrong

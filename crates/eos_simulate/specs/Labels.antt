@@ -1,5 +1,5 @@
 -- The labels of a run: what was done wrong, each with the number of its line in the history. They are a function of what was done.
-use Rattle.std.specs.Prelude.{◌≡◌, ℕ, ◌+◌, Bool, true, false, List, [], ◌∷◌, ◌++◌, length, slice_get, if◌then◌else◌}
+use Rattle.std.specs.Prelude.{◌≡◌, ℕ, ◌+◌, ◌-◌, Bool, true, false, List, [], ◌∷◌, ◌++◌, length, slice_get, nat_lt, Option, None, Some, option_map, if◌then◌else◌}
 use Rattle.eos_machine.specs.declared.event.Event.{Event}
 use Rattle.eos_machine.specs.declared.event.Event.TheVariants as events
 use Rattle.eos_machine.specs.declared.event.Reply.{Reply}
@@ -11,7 +11,8 @@ use Rattle.eos_cluster.specs.Breaches.{broken, log_of}
 use Rattle.eos_cluster.specs.Courses.{Course}
 use Rattle.eos_machine.specs.declared.config.Config.{Config}
 use Rattle.eos_machine.specs.Rest.{IsAtRest}
-use Rattle.eos_machine.specs.World.{World}
+use Rattle.eos_machine.specs.World.{World, log_at}
+use Rattle.eos_machine.specs.Elections.{electable_at}
 use Rattle.eos_drive.specs.Driven.{after_deed, after}
 use Rattle.eos_drive.specs.declared.deed.Deed.{Deed}
 use Rattle.eos_drive.specs.declared.deed.Deed.TheVariants as done
@@ -19,6 +20,7 @@ use Rattle.eos_drive.specs.declared.deed.Note.{Note}
 use Rattle.eos_drive.specs.declared.deed.Note.TheVariants as notes
 use Rattle.eos_simulate.specs.Histories.{new_course}
 use Rattle.eos_simulate.specs.declared.labels.Label.{Label}
+use Rattle.eos_simulate.specs.declared.labels.LostTail.{LostTail}
 use Rattle.eos_simulate.specs.declared.labels.Taken.{Taken}
 use Rattle.eos_simulate.specs.declared.labels.Wrong.{Wrong}
 use Rattle.eos_simulate.specs.declared.labels.Wrong.TheVariants as wrongs
@@ -50,6 +52,26 @@ answer_labels s number n replies.Unknown = []
 answer_labels s number n replies.OutOfMemory = []
 answer_labels s number n replies.Full = []
 
+-- of a partition whose log has so many records, if this isn't of them all
+abbrev pub tail_labels : ℕ → LostTail → Option ℕ → List Label
+tail_labels number t None = []
+tail_labels number t (Some records) =
+    if nat_lt t.offset records then record { number = number; wrong = wrongs.Unclean (record t { records = records - t.offset }) } ∷ [] else []
+
+-- a leader was elected that has the records before this offset
+abbrev pub election_labels : Course → ℕ → LostTail → Reply → List Label
+election_labels s number t (replies.Done epoch) = tail_labels number t (option_map (λ p. length (log_at s.world p)) (electable_at s.config t.topic t.partition))
+election_labels s number t replies.Fenced = []
+election_labels s number t replies.OutOfOrder = []
+election_labels s number t replies.DuplicateKept = []
+election_labels s number t replies.WrongState = []
+election_labels s number t replies.Busy = []
+election_labels s number t replies.StaleGeneration = []
+election_labels s number t replies.EpochsSpent = []
+election_labels s number t replies.Unknown = []
+election_labels s number t replies.OutOfMemory = []
+election_labels s number t replies.Full = []
+
 abbrev pub event_labels : Course → ℕ → Event → Reply → List Label
 event_labels s number (events.Feed p) reply = []
 event_labels s number (events.Start a) reply = []
@@ -66,6 +88,7 @@ event_labels s number (events.TimeOut a) reply = []
 event_labels s number (events.AddPartition n p) reply = []
 event_labels s number (events.WriteMarker n) reply = answer_labels s number n reply
 event_labels s number (events.Complete a) reply = []
+event_labels s number (events.Elect t p k) reply = election_labels s number (record { topic = t; partition = p; offset = k; records = 0 }) reply
 
 -- a mishap, and what the network lost and repeated
 abbrev pub wrong_note : Note → Wrong

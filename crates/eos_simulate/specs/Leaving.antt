@@ -28,6 +28,7 @@ SendsBytes (events.TimeOut a) = ⊤
 SendsBytes (events.AddPartition n p) = ⊤
 SendsBytes (events.WriteMarker n) = ⊤
 SendsBytes (events.Complete a) = ⊤
+SendsBytes (events.Elect t p k) = ⊤
 
 -- there is evidence of these logs
 pub record LeavesEvidence (c : Config) (w : World) : Type 0 where

@@ -27,7 +27,7 @@ abbrev pub unplaced_offset : Option ℤ → Option ℤ
 unplaced_offset None = None
 unplaced_offset (Some v) = Some (pos 0)
 
--- what is asked for, whatever the numbers of the session, of the message and of the input
+-- what is asked for, whatever the numbers of the session, of the message and of the input, and of the records that a new leader has
 abbrev pub unnamed : Event → Event
 unnamed (events.Feed p) = events.Feed p
 unnamed (events.Start a) = events.Start a
@@ -44,6 +44,7 @@ unnamed (events.TimeOut a) = events.TimeOut a
 unnamed (events.AddPartition n p) = events.AddPartition 0 p
 unnamed (events.WriteMarker n) = events.WriteMarker 0
 unnamed (events.Complete a) = events.Complete a
+unnamed (events.Elect t p k) = events.Elect t p 0
 
 abbrev pub unnamed_note : SaidNote → SaidNote
 unnamed_note (notes.Lost message) = notes.Lost 0

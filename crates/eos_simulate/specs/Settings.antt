@@ -38,6 +38,7 @@ rates_said r = record {
   time_out = rate_said r.time_out;
   add_partition = rate_said r.add_partition;
   late_complete = rate_said r.late_complete;
+  elect = rate_said r.elect;
 }
 
 -- a cluster of these sizes has something in which this rule is broken

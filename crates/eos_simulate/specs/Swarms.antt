@@ -1,6 +1,6 @@
 -- The recipe of a folder of a swarm: what the words of the command line leave open is drawn, by the seed alone, and what they give stays.
 -- Source: Groce, Zhang, Eide, Chen, Regehr, "Swarm testing": each test leaves many features out, drawn anew.
-use Rattle.std.specs.Prelude.{ℕ, ◌+◌, ◌*◌, ◌/◌, ◌%◌, min, max, Bool, ◌||◌, ◌&&◌, not, List, vec_len, get_or, slice_index_or, Option, None, Some, is_some, is_none, nat_le, ◌==◌, if◌then◌else◌}
+use Rattle.std.specs.Prelude.{ℕ, ◌+◌, ◌*◌, ◌/◌, ◌%◌, min, max, Bool, false, ◌||◌, ◌&&◌, not, List, vec_len, get_or, slice_index_or, Option, None, Some, is_some, is_none, nat_le, ◌==◌, if◌then◌else◌}
 use Rattle.eos_words.specs.declared.request.Simulation.{Simulation}
 use Rattle.eos_words.specs.declared.request.Sizes.{Sizes}
 use Rattle.eos_words.specs.declared.request.Thousandths.{Thousandths}
@@ -21,7 +21,7 @@ use Rattle.eos_simulate.specs.declared.swarm.Rules.{Rules}
 use Rattle.eos_simulate.specs.Settings.{config_said, rates_said, can_bite}
 
 unfoldable pub draw_count : ℕ
-draw_count = 22
+draw_count = 24
 
 -- the words that a seed draws: those of the generator of the scripts, on a stream of their own
 abbrev pub draws_of : ℕ → List ℕ
@@ -72,6 +72,7 @@ each_rate_drawn given ws = record {
   time_out = given.time_out;
   add_partition = given.add_partition;
   late_complete = given.late_complete;
+  elect = rate_drawn given.elect (word_at ws 22);
 }
 
 -- only rates that fit are drawn
@@ -124,6 +125,10 @@ mishap_drawn words sizes which place =
     if not (vec_len words.mishaps == 0) || not (which % 3 == 0) then None
     else Some (record { mishap = mishap; at = input_drawn words (max (config_said sizes).inputs 1) mishap place })
 
+-- an unclean election in an eighth of the folders
+unfoldable pub unclean_drawn : Simulation → ℕ → Bool
+unclean_drawn words word = (vec_len words.mishaps == 0) && (word % 8 == 0)
+
 -- ---- all of it
 
 unfoldable pub drawn_by : Simulation → List ℕ → Drawn
@@ -138,6 +143,7 @@ drawn_by words ws =
       switch_at = switch_at;
       no_tail = tail_drawn words.no_tail switch_at (word_at ws 19);
       mishap = mishap_drawn words sizes (word_at ws 20) (word_at ws 21);
+      unclean = unclean_drawn words (word_at ws 23);
     }
 
 -- without a swarm what the words give is all
@@ -149,4 +155,5 @@ given_by words = record {
   switch_at = words.switch_at;
   no_tail = words.no_tail;
   mishap = None;
+  unclean = false;
 }

@@ -52,6 +52,8 @@ pub struct Course {
     pub(crate) is_shown: bool,
     /// Whether the run ends after the script, at rest or not.
     pub(crate) stops: bool,
+    /// How many leaders are lost whose followers lack their last records.
+    pub(crate) unclean: u64,
     mishaps: Vec<ChosenMishap>,
 }
 
@@ -95,6 +97,7 @@ impl Course {
             switch_at: words.switch_at,
             is_shown: !words.no_tail && !words.stop_anywhere,
             stops: words.stop_anywhere,
+            unclean: unclean_in(words.mishaps.as_slice()),
             mishaps,
         })
     }
@@ -119,6 +122,7 @@ impl Course {
             switch_at: Some(0),
             is_shown: false,
             stops: false,
+            unclean: 0,
             mishaps: Vec::new(alloc),
         })
     }
@@ -140,6 +144,7 @@ impl Course {
         ensures honest { any_on self.now.switches ≡ false → result.turning ≡ None }
         ensures rates { result.rates ≡ self.now.rates }
         ensures links { result.links ≡ self.now.links }
+        ensures unclean { result.unclean ≡ self.now.unclean }
         ensures mishaps { result.mishaps.now ≡ self.now.mishaps.items }
         ensures stops { result.stops ≡ self.now.stops }
         ensures turning { any_on self.now.switches ≡ true → result.turning ≡ option_map (λ at. record { after = at; switches = self.now.switches }) self.now.switch_at }
@@ -154,6 +159,7 @@ impl Course {
                 }),
                 _ => None,
             },
+            unclean: self.unclean,
             mishaps: self.mishaps.as_slice(),
             stops: self.stops,
         }
@@ -250,6 +256,7 @@ pub(crate) fn rates_of(words: &Thousandths) -> Rates
         time_out: rate_of(words.time_out),
         add_partition: rate_of(words.add_partition),
         late_complete: rate_of(words.late_complete),
+        elect: rate_of(words.elect),
     }
 }
 
@@ -263,10 +270,27 @@ fn rate_of(chosen: Option<u64>) -> Option<u16>
     }
 }
 
-/// The mishaps that the words choose.
+/// The mishap that is none of an application.
+pub(crate) const UNCLEAN: &str = "unclean-election";
+
+/// How many of the words choose it.
+fn unclean_in(words: &[&str]) -> u64 {
+    let mut count = 0u64;
+    for word in words {
+        if *word == UNCLEAN {
+            count = count.saturating_add(1);
+        }
+    }
+    count
+}
+
+/// The mishaps of applications that the words choose.
 fn mishaps_of(alloc: Global, words: &[&str]) -> Result<Vec<ChosenMishap>, SimulationFault> {
     let mut mishaps = Vec::new(alloc);
     for word in words {
+        if *word == UNCLEAN {
+            continue;
+        }
         match ChosenMishap::from_word(word) {
             Some(chosen) => mishaps.push(chosen)?,
             None => {

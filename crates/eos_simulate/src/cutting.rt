@@ -96,7 +96,25 @@ impl Sides {
         if is_cut {
             return Ok(None);
         }
-        self.names.deed(deed)
+        self.names.deed(deed, self.kept(deed))
+    }
+
+    /// How many records a leader has that is elected: all but as many as it lacks in the whole.
+    fn kept(&self, deed: &eos_drive::Deed) -> u64 {
+        match deed {
+            eos_drive::Deed::Asked {
+                event: Event::Elect {
+                    topic,
+                    partition,
+                    kept,
+                },
+                ..
+            } => {
+                let lacked = self.whole.records(topic, *partition).saturating_sub(*kept);
+                self.part.records(topic, *partition).saturating_sub(lacked)
+            }
+            _ => 0,
+        }
     }
 
     /// Names the sessions that are new, where the part had so many before.

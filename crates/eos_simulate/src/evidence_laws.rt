@@ -3,6 +3,7 @@
 
 ghost use Rattle.std.specs.Prelude.{List};
 ghost use Rattle.std.specs.List.{All};
+ghost use Rattle.eos_machine.specs.Elections.{LosesNothing};
 ghost use Rattle.eos_machine.specs.Evidences.{HasRoomForAll};
 ghost use Rattle.eos_machine.specs.Machine.{world_after, world_under};
 ghost use Rattle.eos_machine.specs.LogIndexes.{IsConfig};
@@ -40,6 +41,7 @@ pub fn sends_bytes(event: &Event)
         Event::AddPartition { .. } => {}
         Event::WriteMarker { .. } => {}
         Event::Complete { .. } => {}
+        Event::Elect { .. } => {}
     }
 }
 
@@ -50,9 +52,9 @@ pub fn leaves_evidence()
         → HasRoomForAll c (world_under c (opening c) xs) → LeavesEvidence c (world_under c (opening c) xs) }
 {}
 
-/// Where no switch was on and the cluster is at rest, that evidence is of a schedule, its logs are right, and no fault of the
+/// Where no switch was on, no election lost a record and the cluster is at rest, that evidence is of a schedule, its logs are right, and no fault of the
 /// logs stands in it.
 pub fn leaves_right_evidence()
-    ensures { (c : Config) (es : List Event) → IsConfig c → All SendsBytes es → IsAtRest (world_after c (opening c) es)
+    ensures { (c : Config) (es : List Event) → IsConfig c → All SendsBytes es → LosesNothing (world_after c (opening c) es) → IsAtRest (world_after c (opening c) es)
         → HasRoomForAll c (world_after c (opening c) es) → LeavesRightEvidence c (world_after c (opening c) es) }
 {}

@@ -2,7 +2,7 @@
 
 ghost use Rattle.std.specs.Prelude.{◌≡◌, IfOk};
 
-use crate::course::Course;
+use crate::course::{Course, UNCLEAN};
 use crate::folder::{end_unleft, end_unmade};
 use crate::leaving::{Unleft, Unsimulated, simulate_to};
 use crate::making::SimulationFault;
@@ -98,6 +98,9 @@ fn own_words<'a>(
     let mut mishaps = copies(alloc, words.mishaps.as_slice())?;
     if let Some(mishap) = own.mishap {
         mishaps.push(mishap)?;
+    }
+    if own.drawn.unclean {
+        mishaps.push(UNCLEAN)?;
     }
     Ok(Simulation {
         seed: own.seed,

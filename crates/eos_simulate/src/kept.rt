@@ -5,9 +5,9 @@ ghost use Rattle.eos_machine.specs.Schedules.{IsOfSchedule};
 ghost use Rattle.eos_machine.specs.Switching.{any_on};
 ghost use Rattle.eos_simulate.specs.Schedules.{HasRightLogs, HasNoFaultInLogs};
 ghost use Rattle.eos_drive.specs.Driven.{IsKept};
-ghost use Rattle.eos_simulate.specs.Histories.{new_course, IsLeftBy, HasBroken};
+ghost use Rattle.eos_simulate.specs.Histories.{new_course, IsLeftBy, HasBroken, LoseNothing};
 
-use crate::course::{Course, SWITCHES, is_on};
+use crate::course::{Course, SWITCHES, UNCLEAN, is_on};
 use crate::making::{SimulationFault, evidence_of, new_cluster, none_unmet};
 use eos_cluster::{Cluster, Switches};
 use eos_drive::{History, Script, run_kept, run_tail_kept};
@@ -16,7 +16,7 @@ use std::alloc::{AllocError, Global};
 
 /// What a cluster leaves that is driven by the words of a seed's script. With switches it breaks these rules, if not inside the
 /// script then afterwards, in a few further events each, if they are to be shown; without one its logs have no fault, unless the run stops
-/// after the script, at rest or not. A history that began with nothing in it has what was done.
+/// after the script, at rest or not, or an election lost records. A history that began with nothing in it has what was done.
 pub fn simulate(
     alloc: Global,
     course: &Course,
@@ -24,9 +24,9 @@ pub fn simulate(
 ) -> Result<Evidence, SimulationFault>
     ensures kept { history.old ≡ [] → IfOk result (IsLeftBy course.now.config history.new) }
     ensures switched { OnOk result (HasBroken course.now.switches history.new) }
-    ensures schedule { course.now.stops ≡ false → any_on course.now.switches ≡ false → IfOk result IsOfSchedule }
-    ensures right { course.now.stops ≡ false → any_on course.now.switches ≡ false → IfOk result HasRightLogs }
-    ensures faultless { course.now.stops ≡ false → any_on course.now.switches ≡ false → IfOk result HasNoFaultInLogs }
+    ensures schedule { history.old ≡ [] → course.now.stops ≡ false → any_on course.now.switches ≡ false → LoseNothing course.now.config history.new → IfOk result IsOfSchedule }
+    ensures right { history.old ≡ [] → course.now.stops ≡ false → any_on course.now.switches ≡ false → LoseNothing course.now.config history.new → IfOk result HasRightLogs }
+    ensures faultless { history.old ≡ [] → course.now.stops ≡ false → any_on course.now.switches ≡ false → LoseNothing course.now.config history.new → IfOk result HasNoFaultInLogs }
 {
     let script = Script::from_seed(alloc, course.seed, course.words)?;
     simulate_script(alloc, course, &script, history)
@@ -41,9 +41,9 @@ pub(crate) fn simulate_script(
 ) -> Result<Evidence, SimulationFault>
     ensures left { history.old ≡ [] → IfOk result (IsLeftBy course.now.config history.new) }
     ensures broken { OnOk result (HasBroken course.now.switches history.new) }
-    ensures of_schedule { course.now.stops ≡ false → any_on course.now.switches ≡ false → IfOk result IsOfSchedule }
-    ensures right_logs { course.now.stops ≡ false → any_on course.now.switches ≡ false → IfOk result HasRightLogs }
-    ensures without_fault { course.now.stops ≡ false → any_on course.now.switches ≡ false → IfOk result HasNoFaultInLogs }
+    ensures of_schedule { history.old ≡ [] → course.now.stops ≡ false → any_on course.now.switches ≡ false → LoseNothing course.now.config history.new → IfOk result IsOfSchedule }
+    ensures right_logs { history.old ≡ [] → course.now.stops ≡ false → any_on course.now.switches ≡ false → LoseNothing course.now.config history.new → IfOk result HasRightLogs }
+    ensures without_fault { history.old ≡ [] → course.now.stops ≡ false → any_on course.now.switches ≡ false → LoseNothing course.now.config history.new → IfOk result HasNoFaultInLogs }
 {
     let cluster = broken(alloc, course, script, history)?;
     let evidence = evidence_of(&cluster, course.stops)?;
@@ -80,7 +80,21 @@ fn driven(
     let settings = course.settings();
     let unmet = run_kept(alloc, &mut cluster, history, script, &settings)?;
     none_unmet(unmet)?;
+    if losses_of(&cluster) < course.unclean {
+        return Err(SimulationFault::Unfit(UNCLEAN, "no partition has a record to lose"));
+    }
     Ok(cluster)
+}
+
+/// How many elections have lost records.
+fn losses_of(cluster: &Cluster) -> u64 {
+    let mut count = 0u64;
+    for election in cluster.elections() {
+        if election.lost > 0 {
+            count = count.saturating_add(1);
+        }
+    }
+    count
 }
 
 /// Sets the switches, if any is on, and drives the cluster by the events that show those which are, unless these are left out.

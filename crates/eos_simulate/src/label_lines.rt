@@ -7,9 +7,9 @@ ghost use Rattle.serde_json.specs.Written.{compact_text};
 ghost use Rattle.eos_text.specs.Adding.{Adds};
 ghost use Rattle.eos_machine.specs.LogIndexes.{IsConfig};
 ghost use Rattle.eos_drive.specs.Mishaps.{name_in};
-ghost use Rattle.eos_simulate.specs.LabelTexts.{rule_codes, stop_codes, stop_text, mishap_codes, broken_text, network_text, utf8_or_empty, mishap_text, wrong_text, label_text, AreLabelsIf};
+ghost use Rattle.eos_simulate.specs.LabelTexts.{rule_codes, stop_codes, stop_text, tail_codes, tail_text, mishap_codes, broken_text, network_text, utf8_or_empty, mishap_text, wrong_text, label_text, AreLabelsIf};
 
-use crate::labels::{Label, Taken, Wrong, labels_of};
+use crate::labels::{Label, LostTail, Taken, Wrong, labels_of};
 use crate::making::{SimulationFault, new_cluster};
 use eos_cluster::{Cluster, Switch};
 use eos_drive::History;
@@ -64,6 +64,7 @@ fn push_line(
         Wrong::Repeated(message) => push_network(out, "repeated", number, *message),
         Wrong::Erred(mishap) => push_mishap(alloc, out, number, mishap.as_slice()),
         Wrong::Stopped => push_stopped(out, number),
+        Wrong::Unclean(tail) => push_tail(alloc, out, number, tail),
     }
 }
 
@@ -83,6 +84,33 @@ fn stop_codes() -> &'static str
     ensures { result.now ≡ stop_codes }
 {
     "[\"1.11\",\"2.5\",\"5.7\",\"5.11\"]"
+}
+
+/// Adds the line of this number of an election that lost records.
+fn push_tail(
+    alloc: Global,
+    out: &mut String,
+    number: u64,
+    tail: &LostTail,
+) -> Result<(), AllocError>
+    ensures { OnOk result (Adds (string_bytes out.old) (string_bytes out.new) (tail_text number tail.now)) }
+{
+    push_value(out, "{\"codes\":", &tail_codes())?;
+    push_value(out, ",\"label\":\"unclean-election\",\"number\":", &number)?;
+    push_value(out, ",\"offset\":", &tail.offset)?;
+    push_escaped(alloc, out, ",\"partition\":\"", tail.topic.as_slice())?;
+    push_value(out, "-", &tail.partition)?;
+    push_value(out, "\",\"records\":", &tail.records)?;
+    push_text(out, "}\n")?;
+    Ok(())
+}
+
+/// The codes of the faults that may follow where records were lost that were acknowledged.
+#[tactic(auto, unfolding(crate::specs::LabelTexts::tail_codes))]
+fn tail_codes() -> &'static str
+    ensures { result.now ≡ tail_codes }
+{
+    "[\"1.6\",\"1.9\",\"1.11\",\"3.3\",\"3.7\",\"5.6\",\"5.7\",\"5.8\",\"5.10\",\"5.11\",\"5.12\"]"
 }
 
 /// The codes of the faults that may follow where this rule is broken.

@@ -3,7 +3,7 @@
 ghost use Rattle.std.specs.Prelude.{◌≡◌, ◌∷◌, [], IfOk, OnOk};
 ghost use Rattle.eos_drive.specs.Driven.{after_deed};
 ghost use Rattle.eos_simulate.specs.steps.AddedLabels.{AddsLabels, AddsStop, is_left_out};
-ghost use Rattle.eos_simulate.specs.Labels.{broken_if, broken_labels, taken_at, answer_labels, event_labels, wrong_note, deed_labels, AreLabelsOf};
+ghost use Rattle.eos_simulate.specs.Labels.{broken_if, broken_labels, taken_at, answer_labels, tail_labels, election_labels, event_labels, wrong_note, deed_labels, AreLabelsOf};
 
 use crate::making::{SimulationFault, new_cluster};
 use bytes::Bytes;
@@ -23,6 +23,16 @@ pub struct Taken {
     pub offset: u64,
 }
 
+/// The last records of a partition's log, which were acknowledged and are lost.
+#[derive(Debug, Drop)]
+pub struct LostTail {
+    pub topic: Bytes,
+    pub partition: usize,
+    /// The offset of the first.
+    pub offset: u64,
+    pub records: u64,
+}
+
 /// What was wrong.
 #[derive(Debug, Drop)]
 pub enum Wrong {
@@ -36,6 +46,8 @@ pub enum Wrong {
     Erred(Bytes),
     /// The run stops here, and the cluster isn't at rest.
     Stopped,
+    /// A leader was elected that lacks these records.
+    Unclean(LostTail),
 }
 
 /// What was wrong, and the number of its line in the history.
@@ -142,6 +154,19 @@ fn push_event(
         Event::Deliver { message } | Event::WriteMarker { message } => {
             push_answer(labels, number, cluster, *message, reply)
         }
+        Event::Elect {
+            topic,
+            partition,
+            kept,
+        } => {
+            let tail = LostTail {
+                topic: copy(topic)?,
+                partition: *partition,
+                offset: *kept,
+                records: 0,
+            };
+            push_election(labels, number, cluster, tail, reply)
+        }
         Event::Feed { .. }
         | Event::Start { .. }
         | Event::Produce { .. }
@@ -155,6 +180,57 @@ fn push_event(
         | Event::TimeOut { .. }
         | Event::AddPartition { .. }
         | Event::Complete { .. } => Ok(()),
+    }
+}
+
+/// Adds the label of an election of a leader that has the records before this offset.
+fn push_election(
+    labels: &mut Vec<Label>,
+    number: u64,
+    cluster: &Cluster,
+    tail: LostTail,
+    reply: Reply,
+) -> Result<(), AllocError>
+    ensures { OnOk result (AddsLabels labels.old.items labels.new.items (election_labels cluster.now number tail reply)) }
+{
+    match reply {
+        Reply::Done(_) => {
+            let records = cluster.record_count(&tail.topic, tail.partition);
+            push_tail(labels, number, tail, records)
+        }
+        Reply::Fenced
+        | Reply::OutOfOrder
+        | Reply::DuplicateKept
+        | Reply::WrongState
+        | Reply::Busy
+        | Reply::StaleGeneration
+        | Reply::EpochsSpent
+        | Reply::Unknown
+        | Reply::OutOfMemory
+        | Reply::Full => Ok(()),
+    }
+}
+
+/// The same of a partition whose log has so many records.
+fn push_tail(
+    labels: &mut Vec<Label>,
+    number: u64,
+    tail: LostTail,
+    records: Option<usize>,
+) -> Result<(), AllocError>
+    ensures { OnOk result (AddsLabels labels.old.items labels.new.items (tail_labels number tail records)) }
+{
+    match records {
+        Some(records) if tail.offset < records as u64 => {
+            let lost = LostTail {
+                topic: tail.topic,
+                partition: tail.partition,
+                offset: tail.offset,
+                records: records as u64 - tail.offset,
+            };
+            push_label(labels, number, Wrong::Unclean(lost))
+        }
+        _ => Ok(()),
     }
 }
 

@@ -44,7 +44,7 @@ pub use evidence::evidence_of;
 pub use exploring::{Accused, Explored, Unexplored, explore};
 pub use folder::simulate_folder;
 pub use kept::simulate;
-pub use labels::{Label, Taken, Wrong, labels_of};
+pub use labels::{Label, LostTail, Taken, Wrong, labels_of};
 pub use leaving::{Unleft, Unsimulated, simulate_to};
 pub use making::{SimulationFault, told_to};
 pub use replaying::{ReplayFault, replay};

@@ -3,6 +3,7 @@
 ghost use Rattle.std.specs.Prelude.{◌≡◌, true, false, Err, IfOk, OnErr, string_bytes};
 ghost use Rattle.std.specs.Io.KnownBytes.{Appends, Keeps};
 ghost use Rattle.eos_text.specs.Writing.{WritesFront};
+ghost use Rattle.eos_machine.specs.Elections.{LosesNothing};
 ghost use Rattle.eos_machine.specs.Evidences.{IsEvidenceOf};
 ghost use Rattle.eos_machine.specs.Schedules.{IsOfSchedule};
 ghost use Rattle.eos_simulate.specs.Schedules.{HasRightLogs, HasNoFaultInLogs};
@@ -71,9 +72,9 @@ pub(crate) fn none_unmet(unmet: Option<Mishap>) -> Result<(), SimulationFault> {
 /// The cluster's logs: as they are where its run stops, else at rest.
 pub(crate) fn evidence_of(cluster: &Cluster, stops: bool) -> Result<Evidence, SimulationFault>
     ensures evidence { IfOk result (IsEvidenceOf cluster.now.config cluster.now.world) }
-    ensures schedule { stops ≡ false → cluster.now.honest ≡ true → IfOk result IsOfSchedule }
-    ensures right { stops ≡ false → cluster.now.honest ≡ true → IfOk result HasRightLogs }
-    ensures faultless { stops ≡ false → cluster.now.honest ≡ true → IfOk result HasNoFaultInLogs }
+    ensures schedule { stops ≡ false → cluster.now.honest ≡ true → LosesNothing cluster.now.world → IfOk result IsOfSchedule }
+    ensures right { stops ≡ false → cluster.now.honest ≡ true → LosesNothing cluster.now.world → IfOk result HasRightLogs }
+    ensures faultless { stops ≡ false → cluster.now.honest ≡ true → LosesNothing cluster.now.world → IfOk result HasNoFaultInLogs }
 {
     if !cluster.has_room() {
         return Err(SimulationFault::Limit);

@@ -66,12 +66,12 @@ impl Names {
         }
     }
 
-    /// What a line is by these names, if what it names is made.
-    pub(crate) fn deed(&self, deed: &eos_drive::Deed) -> Result<Option<Deed>, AllocError>
+    /// What a line is by these names, if what it names is made. A leader that it elects has so many records.
+    pub(crate) fn deed(&self, deed: &eos_drive::Deed, kept: u64) -> Result<Option<Deed>, AllocError>
         ensures { IfOk result (λ left. IfSome left (λ d. unnamed_deed d ≡ unnamed_deed (act_of deed.now))) }
     {
         match deed {
-            eos_drive::Deed::Asked { event, .. } => match self.event(event)? {
+            eos_drive::Deed::Asked { event, .. } => match self.event(event, kept)? {
                 Some(event) => Ok(Some(Deed::Asked { event, reply: None })),
                 None => Ok(None),
             },
@@ -101,7 +101,7 @@ impl Names {
         }
     }
 
-    fn event(&self, event: &Event) -> Result<Option<Event>, AllocError>
+    fn event(&self, event: &Event, kept: u64) -> Result<Option<Event>, AllocError>
         ensures { IfOk result (λ left. IfSome left (λ e. unnamed e ≡ unnamed event.now)) }
     {
         match event {
@@ -129,6 +129,15 @@ impl Names {
             | Event::CoordinatorRestart
             | Event::TimeOut { .. }
             | Event::Complete { .. } => Ok(Some(event.clone()?)),
+            Event::Elect {
+                topic,
+                partition,
+                ..
+            } => Ok(Some(Event::Elect {
+                topic: copy(topic)?,
+                partition: *partition,
+                kept,
+            })),
         }
     }
 
@@ -168,7 +177,8 @@ impl Names {
             | Event::Deliver { .. }
             | Event::WriteMarker { .. }
             | Event::TimeOut { .. }
-            | Event::Complete { .. } => Ok(None),
+            | Event::Complete { .. }
+            | Event::Elect { .. } => Ok(None),
         }
     }
 

@@ -78,7 +78,8 @@ fn push_rates(alloc: Global, said: &mut Vec<Value>, rates: Thousandths) -> Resul
     push_number(alloc, said, "--abort", rates.abort)?;
     push_number(alloc, said, "--time-out", rates.time_out)?;
     push_number(alloc, said, "--add-partition", rates.add_partition)?;
-    push_number(alloc, said, "--late-complete", rates.late_complete)
+    push_number(alloc, said, "--late-complete", rates.late_complete)?;
+    push_number(alloc, said, "--elect", rates.elect)
 }
 
 fn push_number(

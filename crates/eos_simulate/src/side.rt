@@ -1,6 +1,7 @@
 //! A cluster, and how many sessions and messages it has.
 
 use crate::making::{SimulationFault, new_cluster};
+use bytes::Bytes;
 use eos_cluster::{Cluster, Switch, Switches};
 use eos_history_lines::Deed;
 use eos_machine::{Config, Event, Reply};
@@ -97,7 +98,8 @@ impl Side {
             | Event::BrokerRestart { .. }
             | Event::AddPartition { .. }
             | Event::WriteMarker { .. }
-            | Event::Complete { .. } => {}
+            | Event::Complete { .. }
+            | Event::Elect { .. } => {}
             Event::CoordinatorRestart | Event::Deliver { .. } | Event::TimeOut { .. } => {
                 self.count_markers();
             }
@@ -120,6 +122,14 @@ impl Side {
         let broken = self.cluster.broken(message);
         self.cluster.set(self.switches);
         broken.lose_marker
+    }
+
+    /// How many records the log of a partition has, where its leader may change.
+    pub(crate) fn records(&self, topic: &Bytes, partition: usize) -> u64 {
+        match self.cluster.record_count(topic, partition) {
+            Some(records) => records as u64,
+            None => 0,
+        }
     }
 
     /// The place of the log of this message.

@@ -1,7 +1,7 @@
 //! `simulate --swarm`: what is drawn for a folder, of what the words leave open.
 
 ghost use Rattle.std.specs.Prelude.{◌≡◌, ◌≤◌, ◌<◌, ◌%◌, ◌==◌, IfOk, if◌then◌else◌};
-ghost use Rattle.eos_simulate.specs.Swarms.{draw_count, draws_of, word_at, events_said, size_drawn, sizes_drawn, rate_drawn, each_rate_drawn, rates_drawn, rule_if, rules_drawn, has_rules, turning_drawn, tail_drawn, input_drawn, mishap_drawn, drawn_by, given_by};
+ghost use Rattle.eos_simulate.specs.Swarms.{draw_count, draws_of, word_at, events_said, size_drawn, sizes_drawn, rate_drawn, each_rate_drawn, rates_drawn, rule_if, rules_drawn, has_rules, turning_drawn, tail_drawn, input_drawn, mishap_drawn, unclean_drawn, drawn_by, given_by};
 
 use crate::course::{SWITCHES, can_bite, config_of, rates_of};
 use eos_cluster::Switch;
@@ -21,6 +21,8 @@ pub struct Drawn {
     pub no_tail: bool,
     /// The mishap, where the words give none.
     pub mishap: Option<ChosenMishap>,
+    /// Whether a leader is lost whose follower lacks its last records, where the words give no mishap.
+    pub unclean: bool,
 }
 
 /// At most two rules, of which both are there only where they differ.
@@ -38,7 +40,7 @@ const STREAM: u64 = 21;
 fn draw_count() -> u64
     ensures { result ≡ draw_count }
 {
-    22
+    24
 }
 
 /// What a folder of this seed is made by: in a swarm what the words leave open is drawn by the seed alone, else nothing is.
@@ -66,6 +68,7 @@ fn given_by(words: &Simulation<'_>) -> Drawn
         switch_at: words.switch_at,
         no_tail: words.no_tail,
         mishap: None,
+        unclean: false,
     }
 }
 
@@ -83,6 +86,7 @@ fn drawn_by(words: &Simulation<'_>, draws: &[u32]) -> Drawn
         switch_at,
         no_tail: tail_drawn(words.no_tail, switch_at, word_at(draws, 19)),
         mishap: mishap_drawn(words, &sizes, word_at(draws, 20), word_at(draws, 21)),
+        unclean: unclean_drawn(words, word_at(draws, 23)),
     }
 }
 
@@ -172,6 +176,7 @@ fn each_rate_drawn(given: Thousandths, draws: &[u32]) -> Thousandths
         time_out: given.time_out,
         add_partition: given.add_partition,
         late_complete: given.late_complete,
+        elect: rate_drawn(given.elect, word_at(draws, 22)),
     }
 }
 
@@ -292,4 +297,12 @@ fn mishap_drawn(
         mishap,
         at: input_drawn(words, inputs, mishap, place),
     })
+}
+
+/// An unclean election in an eighth of the folders.
+#[tactic(auto, unfolding(crate::specs::Swarms::unclean_drawn))]
+fn unclean_drawn(words: &Simulation<'_>, word: u64) -> bool
+    ensures { result ≡ unclean_drawn words.now word }
+{
+    words.mishaps.is_empty() && word % 8 == 0
 }

@@ -11,6 +11,7 @@ mod naming;
 mod request;
 mod scripted;
 mod shrinking;
+mod simulate_help;
 mod simulating;
 mod subcommands;
 

@@ -177,6 +177,7 @@ pub struct Thousandths {
     pub time_out: Option<u64>,
     pub add_partition: Option<u64>,
     pub late_complete: Option<u64>,
+    pub elect: Option<u64>,
 }
 
 /// By which schedules a tiny simulated cluster is run.

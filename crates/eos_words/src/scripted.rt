@@ -92,5 +92,6 @@ fn read_rates(inner: &ArgMatches<'_>) -> Thousandths {
         time_out: inner.get_one::<u64>("time-out"),
         add_partition: inner.get_one::<u64>("add-partition"),
         late_complete: inner.get_one::<u64>("late-complete"),
+        elect: inner.get_one::<u64>("elect"),
     }
 }

@@ -12,7 +12,8 @@ use crate::help::{
 };
 use crate::naming::coordinator_arguments;
 use crate::shrinking::{SHRINK, SHRINK_WRITES, shrink_arguments};
-use crate::simulating::{SIMULATE, SIMULATE_WRITES, simulate_arguments};
+use crate::simulate_help::{SIMULATE, SIMULATE_WRITES};
+use crate::simulating::simulate_arguments;
 
 /// A subcommand.
 #[derive(Clone, Copy)]

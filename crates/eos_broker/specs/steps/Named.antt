@@ -24,3 +24,4 @@ Needs c w (events.TimeOut a) = (length w.coordinators ≡ application_count c) �
 Needs c w (events.AddPartition n p) = ⊤
 Needs c w (events.WriteMarker n) = IsNamed c (slice_get w.messages n)
 Needs c w (events.Complete a) = ⊤
+Needs c w (events.Elect t p k) = ⊤

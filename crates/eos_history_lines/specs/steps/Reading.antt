@@ -6,7 +6,7 @@ use Rattle.eos_batch.specs.declared.marker.Kind.{Kind}
 use Rattle.eos_batch.specs.declared.marker.Kind.TheVariants as kinds
 use Rattle.eos_machine.specs.declared.item.Claim.{Claim}
 use Rattle.eos_machine.specs.declared.event.Event.{Event}
-use Rattle.eos_machine.specs.declared.event.Event.TheVariants.{Feed, Start, Produce, Commit, End, Resume, Fetch, Members, BrokerRestart, CoordinatorRestart, Deliver, TimeOut, AddPartition, WriteMarker, Complete}
+use Rattle.eos_machine.specs.declared.event.Event.TheVariants.{Feed, Start, Produce, Commit, End, Resume, Fetch, Members, BrokerRestart, CoordinatorRestart, Deliver, TimeOut, AddPartition, WriteMarker, Complete, Elect}
 use Rattle.eos_machine.specs.declared.event.Reply.{Reply}
 use Rattle.eos_machine.specs.declared.event.Reply.TheVariants as replies
 use Rattle.eos_machine.specs.declared.switches.Switches.{Switches}
@@ -48,6 +48,11 @@ kind_called word = if bytes_eq word (codes "commit") then Some kinds.Commit else
 
 abbrev pub restart_in : Data → Option Event
 restart_in d = option_and_then (λ topic. option_map (λ partition. BrokerRestart topic partition) (count_in (codes "partition") d)) (text_in (codes "topic") d)
+
+abbrev pub elect_in : Data → Option Event
+elect_in d =
+    option_and_then (λ topic. option_and_then (λ partition. option_map (λ kept. Elect topic partition kept)
+    (count_in (codes "kept") d)) (count_in (codes "partition") d)) (text_in (codes "topic") d)
 
 abbrev pub claim_in : Data → Option Claim
 claim_in d =
@@ -145,7 +150,8 @@ plain_event word d =
 abbrev pub event_called : List ℕ → Data → Option Event
 event_called word d =
     if bytes_eq word (codes "produce") then produce_in d
-    else (if bytes_eq word (codes "broker-restart") then restart_in d else plain_event word d)
+    else (if bytes_eq word (codes "broker-restart") then restart_in d
+    else (if bytes_eq word (codes "elect") then elect_in d else plain_event word d))
 
 abbrev pub event_in : Data → Option Event
 event_in d = option_and_then (λ word. event_called word d) (text_in (codes "event") d)

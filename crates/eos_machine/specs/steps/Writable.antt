@@ -17,5 +17,6 @@ pub record IsWritable (c : Config) (w : World) : Type 0 where
   pub sizes : IsConfig c
   pub fit : (p : ℕ) → All (IsFit c) (log_at w p)
   pub short : (p : ℕ) → length (log_at w p) < 2 ^ 63
+  pub elections : All (λ x. x.leader_epoch < 2 ^ 16) w.elections
   pub count : total w.logs ≤ 2 * w.events
   pub room : HasRoomForAll c w

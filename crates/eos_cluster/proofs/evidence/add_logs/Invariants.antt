@@ -8,5 +8,5 @@ use Rattle.eos_cluster.proofs.evidence.add_logs.Given as goal
 abbrev pub invariant-loop-place : goal.invariant-loop-place
 invariant-loop-place l =
     (adding l.fn.builder (cluster_segments l.store.config l.store.world)
-    ≡ adding l.builder (flat_map (λ p. log_segments l.store.config p (log_at l.store.world p)) (range_with_len l.place (log_count l.store.config - l.place))))
-    × ((p : ℕ) → p < l.place → HaveTexts l.store.config (log_at l.store.world p))
+    ≡ adding l.builder (flat_map (λ p. log_segments l.store.config p l.store.world.elections (log_at l.store.world p)) (range_with_len l.place (log_count l.store.config - l.place))))
+    × ((p : ℕ) → p < l.place → HaveTexts l.store.config p l.store.world.elections (log_at l.store.world p))

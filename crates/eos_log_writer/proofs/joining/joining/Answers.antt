@@ -1,4 +1,4 @@
-use Rattle.std.proofs.Common.{◌≡◌, ◌∙◌, sym, arith, drop}
+use Rattle.std.proofs.Common.{◌∙◌, sym, arith, drop}
 use Rattle.eos_log_writer.proofs.Texts.{no_room, none_joins}
 use Rattle.eos_log_writer.proofs.joining.joining.Goals.{then-i-room-via-then-i-room, then-i-room-via-else-i-room+then-not-goes_on}
 use Rattle.eos_log_writer.proofs.joining.joining.Goals as goal

@@ -11,14 +11,14 @@ use Rattle.eos_log_writer.proofs.segments.add_log.Goals as goal
 
 pub loop-i-init : goal.loop-i-init
 loop-i-init c = (
-  first_left c.args.config c.args.place c.args.log.now c.args.builder.now c.segment_count-count.result c.segment_count-count.ensures,
+  first_left c.args.config c.args.leaders.place c.args.leaders.elections.now c.args.log.now c.args.builder.now c.segment_count-count.result c.segment_count-count.ensures,
   λ k l. absurd (omega (arith, l)),
 )
 
 pub loop-i-preserved : goal.loop-i-preserved
 loop-i-preserved c = (
-  one_added (segment_at c.args.config c.args.place c.args.log.now) c.loop-i.builder c.add.new.builder _ c.in-Ok.segment c.loop-i.i c.segment_count-count.result (omega (arith, c.loop-i-test.true)) c.loop-i.invariant.0 c.in-Ok.ensures.segment c.in_ok-add.ensures.added,
-  one_further (λ k. AreTexts (batches_at c.args.config c.args.log.now k)) c.loop-i.i c.loop-i.invariant.1 c.in-Ok.ensures.written,
+  one_added (segment_at c.args.config c.args.leaders.place c.args.leaders.elections.now c.args.log.now) c.loop-i.builder c.add.new.builder _ c.in-Ok.segment c.loop-i.i c.segment_count-count.result (omega (arith, c.loop-i-test.true)) c.loop-i.invariant.0 c.in-Ok.ensures.segment c.in_ok-add.ensures.added,
+  one_further (λ k. AreTexts (batches_at c.args.config c.args.leaders.place c.args.leaders.elections.now c.args.log.now k)) c.loop-i.i c.loop-i.invariant.1 c.in-Ok.ensures.written,
 )
 
 pub returns-clause-written : goal.returns-clause-written
@@ -31,7 +31,7 @@ pub returns-in_err-add-clause-only : goal.returns-in_err-add-clause-only
 returns-in_err-add-clause-only c =
     let p = err_from_is_err_and c.from_residual.result c.from_residual.ensures.1 in
     λ l h o q. c.in_err-add.ensures.only
-    (next_taken (segment_at c.args.config c.args.place c.args.log.now) c.loop-i.builder _ c.in-Ok.segment c.loop-i.i c.segment_count-count.result (omega (arith, c.loop-i-test.true)) o c.loop-i.invariant.0 c.in-Ok.ensures.segment)
+    (next_taken (segment_at c.args.config c.args.leaders.place c.args.leaders.elections.now c.args.log.now) c.loop-i.builder _ c.in-Ok.segment c.loop-i.i c.segment_count-count.result (omega (arith, c.loop-i-test.true)) o c.loop-i.invariant.0 c.in-Ok.ensures.segment)
     (ap Err (sym p.2) ∙ (sym p.1 ∙ q))
 
 pub segment_at-requires-clause-fits : goal.segment_at-requires-clause-fits

@@ -6,5 +6,5 @@ use Rattle.eos_log_writer.proofs.segments.add_log.Given as goal
 
 abbrev pub invariant-loop-i : goal.invariant-loop-i
 invariant-loop-i l =
-    (adding l.fn.builder (log_segments l.config l.place l.log) ≡ adding l.builder (map (segment_at l.config l.place l.log) (range_with_len l.i (l.count - l.i))))
-    × ((k : ℕ) → k < l.i → AreTexts (batches_at l.config l.log k))
+    (adding l.fn.builder (log_segments l.config l.leaders.place l.leaders.elections.now l.log) ≡ adding l.builder (map (segment_at l.config l.leaders.place l.leaders.elections.now l.log) (range_with_len l.i (l.count - l.i))))
+    × ((k : ℕ) → k < l.i → AreTexts (batches_at l.config l.leaders.place l.leaders.elections.now l.log k))

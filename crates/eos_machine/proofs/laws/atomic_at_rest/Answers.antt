@@ -5,4 +5,4 @@ use Rattle.eos_machine.proofs.GoodEvents.{good_run}
 use Rattle.eos_machine.proofs.laws.atomic_at_rest.Goals as goal
 
 pub returns : goal.returns
-returns g = λ c es i r. rest_is_atomic c (world_after c (opening c) es) (good_run c (opening c) es i (good_opening c)) r
+returns g = λ c es i n r. rest_is_atomic c (world_after c (opening c) es) (good_run c (opening c) es i (good_opening c) n) r

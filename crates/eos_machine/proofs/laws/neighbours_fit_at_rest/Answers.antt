@@ -8,5 +8,5 @@ use Rattle.eos_machine.proofs.laws.neighbours_fit_at_rest.Goals as goal
 
 pub returns : goal.returns
 returns g =
-    λ c es i r. let good = good_run c (opening c) es i (good_opening c) in
+    λ c es i n r. let good = good_run c (opening c) es i (good_opening c) n in
     neighbours_fit c (world_after c (opening c) es) (keeps_sequences c (world_after c (opening c) es) good (counted_run c (opening c) es (counted_opening c))) (rest_is_atomic c (world_after c (opening c) es) good r)

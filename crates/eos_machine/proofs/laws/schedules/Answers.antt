@@ -1,4 +1,4 @@
-use Rattle.eos_machine.proofs.Computed.{commits, restarts, fences, times_out, adds, completes, fetches, omits, lists, chains, rebalances}
+use Rattle.eos_machine.proofs.Computed.{commits, restarts, fences, times_out, adds, completes, fetches, omits, lists, chains, rebalances, elects}
 use Rattle.eos_machine.proofs.laws.schedules.Goals as goal
 
 pub returns-clause-commits : goal.returns-clause-commits
@@ -33,3 +33,6 @@ returns-clause-chains c = chains
 
 pub returns-clause-rebalances : goal.returns-clause-rebalances
 returns-clause-rebalances c = rebalances
+
+pub returns-clause-elects : goal.returns-clause-elects
+returns-clause-elects c = elects

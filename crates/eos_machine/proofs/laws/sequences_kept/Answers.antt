@@ -7,4 +7,4 @@ use Rattle.eos_machine.proofs.TouchRules.{keeps_sequences}
 use Rattle.eos_machine.proofs.laws.sequences_kept.Goals as goal
 
 pub returns : goal.returns
-returns g = λ c es i. keeps_sequences c (world_after c (opening c) es) (good_run c (opening c) es i (good_opening c)) (counted_run c (opening c) es (counted_opening c))
+returns g = λ c es i n. keeps_sequences c (world_after c (opening c) es) (good_run c (opening c) es i (good_opening c) n) (counted_run c (opening c) es (counted_opening c))

@@ -15,7 +15,7 @@ faultless (Ok e) i h = no_fault_in_logs e i h
 faultless (Err f) i h = h
 
 pub returns-clause-right : goal.returns-clause-right
-returns-clause-right c = λ h. right _ (c.evidence.ensures.schedule h)
+returns-clause-right c = λ h l. right _ (c.evidence.ensures.schedule h l)
 
 pub returns-clause-faultless : goal.returns-clause-faultless
-returns-clause-faultless c = λ h. faultless _ c.evidence.ensures.evidence (c.evidence.ensures.schedule h)
+returns-clause-faultless c = λ h l. faultless _ c.evidence.ensures.evidence (c.evidence.ensures.schedule h l)
