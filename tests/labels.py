@@ -7,9 +7,11 @@ Of COUNT folders (300) with random sizes, rates, switches and mishaps: the folde
 the labels of its history; each label names a line of the history of its kind, each note has a label, and each line fits
 docs/labels.schema.json. Without a switch no rule was broken. Then the score. Of a folder: `check` says no where a label has codes, and yes
 elsewhere. Of a fault: a label has its code. Of a label: a fault with one of its codes is found. What is missed is explained: labels of
-HARMLESS may do no harm, nor a loss of records of which the second program finds none, nor does a zombie's record before the abort of its own transaction, a mishap's transaction may come to nothing where a rule is broken too, and a fault is hidden behind those of a
+HARMLESS may do no harm, nor a loss of records of which the second program finds none, nor does a zombie's record before the abort of its own transaction,
+nor a rule that is broken at an end marker that is lost; a mishap's transaction may come to nothing where a rule is broken too, and a fault is hidden behind those of a
 phase before, which `check --all` then lists alone: it stands by the second program, tests/reference.py, which looks at every phase of these
-folders, and of every tenth. Faults of AT_LABELS stand at records that a label names. Then `--count` makes the folders that single calls
+folders, and of every tenth. Faults of AT_LABELS stand at records that a label names, or of a
+sequence behind one. Then `--count` makes the folders that single calls
 make. With REFUSE.SO (tests/refuse.c, built) the allocations of a run are refused. Prints what is wrong and the score, and as its last line
 'N passed, N failed'.
 """
@@ -161,6 +163,17 @@ def is_given_up(folder, label):
     return end is not None and end.word == ABORT
 
 
+def is_named(fault, places):
+    """Whether a label names the record of a fault, or of a sequence the one before: what is taken twice isn't followed by its next."""
+    part = f"{fault['topic']}-{fault['partition']}"
+    return (part, fault["offset"]) in places or (fault["code"] == "1.4" and (part, fault["offset"] - 1) in places)
+
+
+def is_unwritten(labels, label):
+    """Whether what a label of a broken rule names is an end marker that isn't written, by a label of lose-marker."""
+    return "rule" in label and any(it.get("rule") == "lose-marker" and it["number"] == label["number"] for it in labels)
+
+
 class Score:
     """A seed's folder: what is wrong with its labels, and how `check` does by them."""
 
@@ -181,7 +194,7 @@ class Score:
         is_lossy = any(it["label"] == "unclean-election" for it in labels)
         places = {(it.get("partition"), it.get("offset")) for it in labels}
         for it in faults:
-            if it["code"] in AT_LABELS and not is_lossy and (f"{it['topic']}-{it['partition']}", it["offset"]) not in places:
+            if it["code"] in AT_LABELS and not is_lossy and not is_named(it, places):
                 return self.fail(f"no label names the record of {it}")
         found = {it["code"] for it in faults}
         first = min(map(phase, found), default=9)
@@ -198,7 +211,7 @@ class Score:
                 self.missed.append("harmless")
             elif is_lossy and it["label"] in ("mishap", "broken-rule"):
                 self.missed.append("what went wrong was lost")
-            elif is_given_up(folder, it):
+            elif is_given_up(folder, it) or is_unwritten(labels, it):
                 self.missed.append("harmless")
             elif it["label"] == "mishap" and is_broken:
                 self.missed.append("a mishap beside a broken rule")
