@@ -1,9 +1,9 @@
 #!/usr/bin/env -S python3 -B
 """What `simulate --labels` says was done wrong, against what `check` and tests/reference.py find: the score of a checker.
 
-    tests/labels.py PROGRAM [REFUSE.SO [COUNT]]
+    tests/labels.py PROGRAM [REFUSE.SO [COUNT [FIRST]]]
 
-Of COUNT folders (300) with random sizes, rates, switches and mishaps: the folder is the same with labels and without, and a schedule has
+Of COUNT folders (300), of the seeds from FIRST (1) on, with random sizes, rates, switches and mishaps: the folder is the same with labels and without, and a schedule has
 the labels of its history; each label names a line of the history of its kind, each note has a label, and each line fits
 docs/labels.schema.json. Without a switch no rule was broken. Then the score. Of a folder: `check` says no where a label has codes, and yes
 elsewhere. Of a fault: a label has its code. Of a label: a fault with one of its codes is found. What is missed is explained: labels of
@@ -316,8 +316,9 @@ def refused_memory(library):
 
 def main():
     count = int(sys.argv[3]) if len(sys.argv) > 3 else 300
+    first = int(sys.argv[4]) if len(sys.argv) > 4 else 1
     with concurrent.futures.ThreadPoolExecutor(4) as pool:
-        found = [it for it in pool.map(scored, range(1, count + 1)) if it]
+        found = [it for it in pool.map(scored, range(first, first + count)) if it]
     for it in found:
         expect(not it.wrong, it.wrong)
     done, said = [it for it in found if it.labels], [it for it in found if it.faults]

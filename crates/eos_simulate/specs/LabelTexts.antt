@@ -27,7 +27,7 @@ rule_codes NoBump = codes "[\"1.3\",\"1.5\",\"1.7\",\"3.3\",\"3.5\",\"3.7\",\"5.
 rule_codes LoseMarker = codes "[\"1.6\",\"1.11\",\"3.7\"]"
 rule_codes SwapMarker = codes "[\"1.9\",\"3.3\",\"3.5\",\"3.7\",\"5.6\",\"5.7\",\"5.8\",\"5.10\",\"5.11\",\"5.12\"]"
 rule_codes HideListing = codes "[\"1.6\",\"1.11\",\"3.3\",\"3.4\",\"3.5\",\"5.6\",\"5.8\",\"5.10\",\"5.11\",\"5.12\"]"
-rule_codes IgnoreGeneration = codes "[\"5.7\",\"5.10\"]"
+rule_codes IgnoreGeneration = codes "[\"5.7\",\"5.10\",\"5.11\",\"5.12\"]"
 
 -- the code of the fault of a mishap of this name; of another word none
 unfoldable pub mishap_codes : List ℕ → List ℕ
