@@ -5,3 +5,4 @@ pub mod Replaying
 pub mod Agreeing
 pub mod Equal
 mod Counted
+pub mod Losses

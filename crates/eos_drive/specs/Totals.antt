@@ -1,5 +1,5 @@
 -- How often what stands in a history.
-use Rattle.std.specs.Prelude.{◌≡◌, ℕ, Bool, true, false, List}
+use Rattle.std.specs.Prelude.{◌≡◌, Bool, true, false, List}
 use Rattle.std.specs.List.{count_by}
 use Rattle.eos_drive.specs.declared.deed.Deed.{Deed}
 use Rattle.eos_drive.specs.declared.deed.Deed.TheVariants.{Asked, Set, Noted}

@@ -27,8 +27,6 @@ pub(crate) struct Actors {
     pub(crate) network: Network,
     /// The present instance of each application, and after them abandoned ones that don't know it yet.
     pub(crate) instances: Vec<Instance>,
-    /// How many leaders are still to be lost whose followers lack their last records.
-    pub(crate) unclean: u64,
 }
 
 /// How many abandoned instances go on at most.
@@ -53,7 +51,6 @@ impl Actors {
             plan: Plan::new(alloc, *config, settings.mishaps)?,
             network: Network::new(alloc, settings.links),
             instances,
-            unclean: settings.unclean,
         })
     }
 

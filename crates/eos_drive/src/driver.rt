@@ -1,14 +1,17 @@
 //! What a run does to a cluster: all that is done to it goes through a driver, which knows where it has led.
 
-ghost use Rattle.std.specs.Prelude.{◌≡◌, List, Some, IsSome};
+ghost use Rattle.std.specs.Prelude.{◌≡◌, false, List, length, Some, IsSome, IfSome};
 ghost use Rattle.std.specs.Result.{OnOk, OnErr};
+ghost use Rattle.eos_machine.specs.Elections.{electable_at};
+ghost use Rattle.eos_machine.specs.World.{log_at};
 ghost use Rattle.eos_cluster.specs.Courses.{IsStepUnder, IsCounted};
 ghost use Rattle.eos_drive.specs.Driven.{after_deed, IsDriven, IsKept};
-ghost use Rattle.eos_drive.specs.steps.Drives.{recorded_in, set_in, noted_in, HasAsked, HasDone};
+ghost use Rattle.eos_drive.specs.steps.Drives.{recorded_in, set_in, noted_in, lost_in, is_election, HasAsked, HasDone};
 ghost use Rattle.eos_drive.specs.declared.deed.Deed.{Deed};
 
 use crate::deed::Note;
 use crate::history::History;
+use bytes::Bytes;
 use eos_cluster::Cluster;
 use eos_machine::{Event, Reply, Switches};
 use std::alloc::AllocError;
@@ -45,6 +48,25 @@ fn ask_one(cluster: &mut Cluster, history: &mut Option<History>, event: Event) -
     match history {
         Some(history) => history.ask(cluster, event),
         None => cluster.step(event),
+    }
+}
+
+/// How many records the log of a partition has whose leader may change; of any other none.
+#[tactic(auto, using(crate::proofs::Losses::counted, crate::proofs::Losses::not_there))]
+pub(crate) fn records_in(cluster: &Cluster, topic: &Bytes, partition: usize) -> u64
+    ensures { IfSome (electable_at cluster.now.config topic.now partition) (λ place. result ≡ length (log_at cluster.now.world place)) }
+{
+    match cluster.record_count(topic, partition) {
+        Some(records) => records as u64,
+        None => 0,
+    }
+}
+
+/// A reply, if memory sufficed.
+fn unless_memory(reply: Reply) -> Result<Reply, AllocError> {
+    match reply {
+        Reply::OutOfMemory => Err(AllocError),
+        reply => Ok(reply),
     }
 }
 
@@ -95,25 +117,69 @@ impl Driver {
     /// Asks the cluster for an event. `OutOfMemory` leaves everything as it was.
     fn take(&mut self, cluster: &mut Cluster, event: Event) -> Reply
         requires { self.old.course ≡ cluster.old }
-        ensures { HasAsked cluster.old self.old cluster.new self.new }
+        ensures done { HasDone cluster.old self.old cluster.new self.new }
+        ensures honest { cluster.new.honest ≡ cluster.old.honest }
+        ensures step { IsStepUnder cluster.old event result cluster.new }
+        ensures counted { IsCounted cluster.old result cluster.new }
     {
         let reply = ask_one(cluster, &mut self.history, event);
         self.course = Snapshot::of(&*cluster);
         reply
     }
 
-    /// What the cluster answers to an event.
+    /// What the cluster answers to an event that elects no leader.
     ///
     /// # Errors
     /// Where a growth was refused; the cluster is as it was.
     pub(crate) fn ask(&mut self, cluster: &mut Cluster, event: Event) -> Result<Reply, AllocError>
+        requires course { self.old.course ≡ cluster.old }
+        requires other { is_election event ≡ false }
+        ensures { HasAsked cluster.old self.old cluster.new self.new }
+    {
+        let reply = self.take(cluster, event);
+        unless_memory(reply)
+    }
+
+    /// What it answers where a partition gets a leader that has all records of its log.
+    ///
+    /// # Errors
+    /// Where a growth was refused; the cluster is as it was.
+    pub(crate) fn elect(
+        &mut self,
+        cluster: &mut Cluster,
+        topic: Bytes,
+        partition: usize,
+    ) -> Result<Reply, AllocError>
         requires { self.old.course ≡ cluster.old }
         ensures { HasAsked cluster.old self.old cluster.new self.new }
     {
-        match self.take(cluster, event) {
-            Reply::OutOfMemory => Err(AllocError),
-            reply => Ok(reply),
-        }
+        let kept = records_in(cluster, &topic, partition);
+        let reply = self.take(
+            cluster,
+            Event::Elect {
+                topic,
+                partition,
+                kept,
+            },
+        );
+        unless_memory(reply)
+    }
+
+    /// What it answers to any event: that of an election may lose records.
+    ///
+    /// # Errors
+    /// Where a growth was refused; the cluster is as it was.
+    pub(crate) fn ask_any(
+        &mut self,
+        cluster: &mut Cluster,
+        event: Event,
+    ) -> Result<Reply, AllocError>
+        requires { self.old.course ≡ cluster.old }
+        ensures done { HasDone cluster.old self.old cluster.new self.new }
+        ensures honest { cluster.new.honest ≡ cluster.old.honest }
+    {
+        let reply = self.take(cluster, event);
+        unless_memory(reply)
     }
 
     /// Sets the cluster's switches.
@@ -126,7 +192,8 @@ impl Driver {
         switches: Switches,
     ) -> Result<(), AllocError>
         requires { self.old.course ≡ cluster.old }
-        ensures { HasDone cluster.old self.old cluster.new self.new }
+        ensures done { HasDone cluster.old self.old cluster.new self.new }
+        ensures lossless { lost_in cluster.new.world ≡ lost_in cluster.old.world }
     {
         set_one(cluster, &mut self.history, switches)?;
         self.course = Snapshot::of(&*cluster);

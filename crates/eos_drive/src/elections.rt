@@ -1,10 +1,10 @@
 //! Elections of leaders: a partition gets one that has all its records, or one that lacks the last of them.
 
 ghost use Rattle.std.specs.Prelude.{◌≡◌};
-ghost use Rattle.eos_drive.specs.steps.Drives.{HasAsked};
+ghost use Rattle.eos_drive.specs.steps.Drives.{HasAsked, HasDone};
 
 use crate::actors::Actors;
-use crate::driver::Driver;
+use crate::driver::{Driver, records_in};
 use crate::plan::remainder;
 use bytes::Bytes;
 use eos_cluster::Cluster;
@@ -44,10 +44,7 @@ impl Led {
 
     /// How many records its log has.
     fn records(self, cluster: &Cluster) -> u64 {
-        match cluster.record_count(&self.topic(), self.partition()) {
-            Some(records) => records as u64,
-            None => 0,
-        }
+        records_in(cluster, &self.topic(), self.partition())
     }
 
     /// That it gets a leader which has so many of its records.
@@ -72,38 +69,35 @@ impl Actors {
         ensures { HasAsked cluster.old driver.old cluster.new driver.new }
     {
         let led = self.led(remainder(choice, self.led_count()));
-        let kept = led.records(cluster);
-        driver.ask(cluster, led.election(kept))?;
+        driver.elect(cluster, led.topic(), led.partition())?;
         Ok(())
     }
 
-    /// A leader is lost, if one is still to be, and the new one lacks the last records, one to three: of the first partition from a chosen
-    /// one on that has any.
+    /// A leader is lost, and the new one lacks the last records, one to three: of the first partition from a chosen one on that has any.
+    /// Whether there was one.
     pub(crate) fn lose_leader(
         &mut self,
         cluster: &mut Cluster,
         driver: &mut Driver,
         choice: u64,
-    ) -> Result<(), AllocError>
+    ) -> Result<bool, AllocError>
         requires { driver.old.course ≡ cluster.old }
-        ensures { HasAsked cluster.old driver.old cluster.new driver.new }
+        ensures done { HasDone cluster.old driver.old cluster.new driver.new }
+        ensures honest { cluster.new.honest ≡ cluster.old.honest }
     {
         let Some(led) = self.to_lose(cluster, choice / MOST_LOST) else {
-            return Ok(());
+            return Ok(false);
         };
         let kept = led.records(cluster).saturating_sub(1 + choice % MOST_LOST);
-        if let Reply::Done(_) = driver.ask(cluster, led.election(kept))? {
-            self.unclean = self.unclean.saturating_sub(1);
-            self.hear_of_loss(led, kept);
-        }
-        Ok(())
+        let Reply::Done(_) = driver.ask_any(cluster, led.election(kept))? else {
+            return Ok(false);
+        };
+        self.hear_of_loss(led, kept);
+        Ok(true)
     }
 
-    /// The partition that loses its leader, if one is to.
+    /// The partition that loses its leader, if one has any records.
     fn to_lose(&self, cluster: &Cluster, choice: u64) -> Option<Led> {
-        if self.unclean == 0 {
-            return None;
-        }
         let count = self.led_count();
         for place in 0..count {
             let led = self.led(remainder(choice.saturating_add(place as u64), count));

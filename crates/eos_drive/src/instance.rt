@@ -1,5 +1,9 @@
 //! An instance of an application: what it does next, and what it makes of a reply.
 
+ghost use Rattle.std.specs.Prelude.{◌≡◌, false, IfSome};
+ghost use Rattle.eos_drive.specs.steps.Drives.{is_election};
+ghost use Rattle.eos_drive.specs.steps.Turns.{ElectsNone};
+
 use crate::plan::Plan;
 use crate::request::Request;
 use eos_batch::Kind;
@@ -111,7 +115,9 @@ impl Instance {
 
     // ---- what it does next
 
-    pub(crate) fn turn(&mut self, plan: &Plan, choice: Choice) -> Turn {
+    pub(crate) fn turn(&mut self, plan: &Plan, choice: Choice) -> Turn
+        ensures { ElectsNone result }
+    {
         if self.is_idle {
             self.is_idle = false;
             self.is_kept_out = false;
@@ -160,7 +166,9 @@ impl Instance {
 
     /// Sends the request of this number. An offset that is deleted is so before anything else is asked, so that the one which
     /// is committed after it stands.
-    fn send_next(&self, number: usize) -> Turn {
+    fn send_next(&self, number: usize) -> Turn
+        ensures { ElectsNone result }
+    {
         if let Some(message) = self.undeleted(number) {
             return Turn::Again(message);
         }
@@ -181,7 +189,9 @@ impl Instance {
     }
 
     /// Sends the first message again that wasn't accepted; where all were, asks for the end.
-    fn wait_or_end(&self, aborts: bool) -> Turn {
+    fn wait_or_end(&self, aborts: bool) -> Turn
+        ensures { ElectsNone result }
+    {
         if aborts {
             return self.end(Kind::Abort);
         }
@@ -193,7 +203,9 @@ impl Instance {
         self.end(Kind::Commit)
     }
 
-    fn end(&self, kind: Kind) -> Turn {
+    fn end(&self, kind: Kind) -> Turn
+        ensures { ElectsNone result }
+    {
         Turn::Ask(Event::End {
             session: self.session,
             kind,
@@ -201,7 +213,9 @@ impl Instance {
     }
 
     /// It adds a partition to its transaction, or without a number that of the offsets, where it has anything to send.
-    pub(crate) fn adding(&self, partition: Option<usize>) -> Option<Event> {
+    pub(crate) fn adding(&self, partition: Option<usize>) -> Option<Event>
+        ensures { IfSome result (λ event. is_election event ≡ false) }
+    {
         match self.stage {
             Stage::Sending(_) | Stage::Waiting => Some(Event::AddPartition {
                 session: self.session,

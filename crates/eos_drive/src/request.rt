@@ -1,5 +1,8 @@
 //! What a transaction asks of the cluster.
 
+ghost use Rattle.std.specs.Prelude.{◌≡◌, false};
+ghost use Rattle.eos_drive.specs.steps.Drives.{is_election};
+
 use bytes::Bytes;
 use eos_machine::{Claim, Event};
 
@@ -39,7 +42,9 @@ pub(crate) struct Output {
 
 impl Request {
     /// The event by which a session asks.
-    pub(crate) fn event(self, session: usize) -> Event {
+    pub(crate) fn event(self, session: usize) -> Event
+        ensures { is_election result ≡ false }
+    {
         match self {
             Request::Write { partition, output } => Event::Produce {
                 session,

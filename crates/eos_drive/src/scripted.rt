@@ -1,8 +1,9 @@
 //! A cluster that a script drives, from its first word to its end.
 
-ghost use Rattle.std.specs.Prelude.{◌≡◌, None};
+ghost use Rattle.std.specs.Prelude.{◌≡◌, None, IfOk};
+ghost use Rattle.eos_machine.specs.Elections.{LosesNothing};
 ghost use Rattle.eos_drive.specs.Driven.{IsDriven, IsKept};
-ghost use Rattle.eos_drive.specs.steps.Drives.{HasDone};
+ghost use Rattle.eos_drive.specs.steps.Drives.{lost_in, HasDone};
 
 use crate::actors::Actors;
 use crate::driver::Driver;
@@ -34,6 +35,7 @@ pub fn run_script(alloc: Global, cluster: &mut Cluster, script: &Script) -> Resu
     ensures driven { IsDriven cluster.old cluster.new }
     ensures config { cluster.new.config ≡ cluster.old.config }
     ensures honest { cluster.new.honest ≡ cluster.old.honest }
+    ensures lossless { LosesNothing cluster.old.world → LosesNothing cluster.new.world }
 {
     run_with(alloc, cluster, script, &Settings::today())?;
     Ok(())
@@ -41,7 +43,8 @@ pub fn run_script(alloc: Global, cluster: &mut Cluster, script: &Script) -> Resu
 
 /// The same with other settings. Rates that come to more than 1,000 leave the later ones less. A run that stops ends after its last word, at
 /// rest or not. The answer is the first of the
-/// mishaps that didn't happen, since no input suited it, or none came in where it was to.
+/// mishaps that didn't happen, since no input suited it, or none came in where it was to. Where no leader is to be lost whose followers
+/// lack records, no election loses one.
 ///
 /// # Errors
 /// Where a growth was refused. The cluster has taken some of the events.
@@ -54,6 +57,7 @@ pub fn run_with(
     ensures driven { IsDriven cluster.old cluster.new }
     ensures config { cluster.new.config ≡ cluster.old.config }
     ensures honest { settings.now.turning ≡ None → cluster.new.honest ≡ cluster.old.honest }
+    ensures lossless { settings.now.unclean ≡ 0 → LosesNothing cluster.old.world → LosesNothing cluster.new.world }
 {
     let mut driver = Driver::new(cluster, None);
     let answer = drive_words(alloc, cluster, &mut driver, script, settings);
@@ -76,6 +80,7 @@ pub fn run_kept(
     ensures kept { IsKept cluster.old history.old cluster.new history.new }
     ensures config { cluster.new.config ≡ cluster.old.config }
     ensures honest { settings.now.turning ≡ None → cluster.new.honest ≡ cluster.old.honest }
+    ensures lossless { settings.now.unclean ≡ 0 → LosesNothing cluster.old.world → LosesNothing cluster.new.world }
 {
     let before = mem::replace(history, History::new(alloc));
     let mut driver = Driver::new(cluster, Some(before));
@@ -94,15 +99,17 @@ fn drive_words(
     requires { driver.old.course ≡ cluster.old }
     ensures done { HasDone cluster.old driver.old cluster.new driver.new }
     ensures honest { settings.now.turning ≡ None → cluster.new.honest ≡ cluster.old.honest }
+    ensures lossless { settings.now.unclean ≡ 0 → lost_in cluster.new.world ≡ lost_in cluster.old.world }
 {
     let mut actors = Actors::new(alloc, cluster, settings)?;
     let unclean_from = unclean_from(script);
+    let mut unclean = settings.unclean;
     let mut number = 0u64;
     for word in script.words() {
         turn_on(cluster, driver, settings, number)?;
         actors.take_word(cluster, driver, *word)?;
         if number >= unclean_from {
-            actors.lose_leader(cluster, driver, u64::from(*word))?;
+            unclean = lose_if(&mut actors, cluster, driver, unclean, u64::from(*word))?;
         }
         number = number.saturating_add(1);
     }
@@ -112,6 +119,26 @@ fn drive_words(
     }
     settle(&mut actors, cluster, driver)?;
     Ok(actors.plan.unmet())
+}
+
+/// Loses a leader by this choice, if one is still to be. How many still are.
+fn lose_if(
+    actors: &mut Actors,
+    cluster: &mut Cluster,
+    driver: &mut Driver,
+    unclean: u64,
+    choice: u64,
+) -> Result<u64, AllocError>
+    requires { driver.old.course ≡ cluster.old }
+    ensures done { HasDone cluster.old driver.old cluster.new driver.new }
+    ensures honest { cluster.new.honest ≡ cluster.old.honest }
+    ensures lossless { unclean ≡ 0 → lost_in cluster.new.world ≡ lost_in cluster.old.world }
+    ensures none { unclean ≡ 0 → IfOk result (λ left. left ≡ 0) }
+{
+    if unclean > 0 && actors.lose_leader(cluster, driver, choice)? {
+        return Ok(unclean - 1);
+    }
+    Ok(unclean)
 }
 
 /// The word from which on leaders are lost whose followers lack records: one of the later half, by the first word.
@@ -135,6 +162,7 @@ fn turn_on(
     requires { driver.old.course ≡ cluster.old }
     ensures done { HasDone cluster.old driver.old cluster.new driver.new }
     ensures honest { settings.now.turning ≡ None → cluster.new.honest ≡ cluster.old.honest }
+    ensures lossless { lost_in cluster.new.world ≡ lost_in cluster.old.world }
 {
     if let Some(turning) = settings.turning
         && turning.after == number

@@ -1,8 +1,9 @@
 //! What shows that a rule is broken: a few events for each switch, after which the checker names its fault.
 
-ghost use Rattle.std.specs.Prelude.{◌≡◌};
+ghost use Rattle.std.specs.Prelude.{◌≡◌, false};
+ghost use Rattle.eos_machine.specs.Elections.{LosesNothing};
 ghost use Rattle.eos_drive.specs.Driven.{IsDriven, IsKept};
-ghost use Rattle.eos_drive.specs.steps.Drives.{HasAsked};
+ghost use Rattle.eos_drive.specs.steps.Drives.{is_election, HasAsked};
 
 use crate::driver::Driver;
 use crate::history::History;
@@ -27,6 +28,7 @@ pub fn run_tail(cluster: &mut Cluster, switch: Switch) -> Result<(), AllocError>
     ensures driven { IsDriven cluster.old cluster.new }
     ensures config { cluster.new.config ≡ cluster.old.config }
     ensures honest { cluster.new.honest ≡ cluster.old.honest }
+    ensures lossless { LosesNothing cluster.old.world → LosesNothing cluster.new.world }
 {
     let mut driver = Driver::new(cluster, None);
     let answer = show(cluster, &mut driver, switch);
@@ -47,6 +49,7 @@ pub fn run_tail_kept(
     ensures kept { IsKept cluster.old history.old cluster.new history.new }
     ensures config { cluster.new.config ≡ cluster.old.config }
     ensures honest { cluster.new.honest ≡ cluster.old.honest }
+    ensures lossless { LosesNothing cluster.old.world → LosesNothing cluster.new.world }
 {
     let before = mem::replace(history, History::new(alloc));
     let mut driver = Driver::new(cluster, Some(before));
@@ -166,7 +169,8 @@ fn process(
 
 /// What an event was answered by `Done`, where it was.
 fn done(cluster: &mut Cluster, driver: &mut Driver, event: Event) -> Result<Option<u64>, AllocError>
-    requires { driver.old.course ≡ cluster.old }
+    requires course { driver.old.course ≡ cluster.old }
+    requires other { is_election event ≡ false }
     ensures { HasAsked cluster.old driver.old cluster.new driver.new }
 {
     match driver.ask(cluster, event)? {

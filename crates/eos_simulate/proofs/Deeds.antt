@@ -2,10 +2,11 @@
 use Rattle.std.proofs.Common.{◌≡◌, ℕ, ◌+◌, ◌<◌, ◌≤◌, ◌≢◌, Bool, true, List, Contains, Option, None, Some, IfSome, IsSome, [], ◌∷◌, ◌++◌, length, take, drop, get_or, if◌then◌else◌, refl, sym, ap, ap₂, subst, ◌∙◌, append_assoc}
 use Rattle.std.proofs.lemmas.Bool.{false≢true}
 use Rattle.std.proofs.lemmas.List.{take_all, take_more, take-append-drop, append-nil}
-use Rattle.std.proofs.lemmas.List.Elements.{Contains-append_left, Contains-push}
+use Rattle.std.proofs.lemmas.List.Elements.{All-nil, Contains-append_left, Contains-push}
 use Rattle.std.specs.List.{AllZip}
 use Rattle.eos_machine.specs.declared.config.Config.{Config}
 use Rattle.eos_machine.specs.declared.switches.Switches.{Switches}
+use Rattle.eos_machine.specs.declared.state.Election.{Election}
 use Rattle.eos_machine.specs.Elections.{LosesNothing}
 use Rattle.eos_machine.specs.declared.event.Event.{Event}
 use Rattle.eos_machine.specs.declared.event.Reply.{Reply}
@@ -38,6 +39,16 @@ pub lossless_kept : (c : Config) (before now : List Deed) (t : Course) → IsKep
 lossless_kept c before now t k none lossless =
     let is : now ≡ k.since = k.kept ∙ ap (λ (ds : List Deed). ds ++ k.since) none in
     subst (λ (s : Course). LosesNothing s.world) (sym k.leads.state) (subst (LoseNothing c) is lossless)
+
+-- and the other way round
+pub lossless_left : (c : Config) (before now : List Deed) (t : Course) → IsKept (new_course c) before t now → before ≡ [] → LosesNothing t.world → LoseNothing c now
+lossless_left c before now t k none lossless =
+    let is : now ≡ k.since = k.kept ∙ ap (λ (ds : List Deed). ds ++ k.since) none in
+    subst (LoseNothing c) (sym is) (subst (λ (s : Course). LosesNothing s.world) k.leads.state lossless)
+
+-- before any event
+pub lossless_new : (c : Config) (s : Course) → s ≡ new_course c → LosesNothing s.world
+lossless_new c s new = subst (λ (t : Course). LosesNothing t.world) (sym new) (All-nil (λ (x : Election). x.lost ≡ 0))
 
 pub kept_same : (s : Course) (before now : List Deed) → now ≡ before → IsKept s before s now
 kept_same s before now e = subst (λ (x : List Deed). IsKept s before s x) (sym e) (deeds.kept_still s before)

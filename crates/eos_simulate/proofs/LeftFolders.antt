@@ -27,7 +27,7 @@ use Rattle.eos_simulate.specs.HistoryTexts.{IsHistoryIf}
 use Rattle.eos_simulate.specs.MistakeTexts.{collected_lines}
 use Rattle.eos_simulate.specs.LabelTexts.{AreLabelsIf}
 use Rattle.eos_simulate.specs.declared.made.WantedTexts.{WantedTexts}
-use Rattle.eos_simulate.specs.Settings.{config_said, switches_said}
+use Rattle.eos_simulate.specs.Settings.{config_said, switches_said, unclean_said}
 use Rattle.eos_simulate.specs.steps.Heads.{head_of}
 
 -- ---- what lies below a folder, and what doesn't
@@ -214,19 +214,20 @@ simulated words left rest old begun ready made labelled ended new files texts e 
 
 -- ---- the run by words
 
-abbrev IsOfParts : WantedTexts → EvidenceParts → Texts → Bool → Config → Switches → ℕ → ℕ → Type 0
-IsOfParts keeps e texts stops c u seed count = IsOfScript c u stops (record { config = c; switches = u; seed = seed; words = count }) keeps e texts
+abbrev IsOfParts : WantedTexts → EvidenceParts → Texts → Bool → ℕ → Config → Switches → ℕ → ℕ → Type 0
+IsOfParts keeps e texts stops unclean c u seed count = IsOfScript c u stops unclean (record { config = c; switches = u; seed = seed; words = count }) keeps e texts
 
 pub of_words : (words : Simulation) (course : Course) (keeps : WantedTexts) (e : EvidenceParts) (texts : Texts) → course.config ≡ config_said words.sizes
-    → (course.seed ≡ words.seed) × (course.words ≡ words.events) → course.switches ≡ switches_said words.switches.items → course.stops ≡ words.stop_anywhere → keeps ≡ wanted_by words
-    → IsOfScript course.config course.switches course.stops (head_of course) keeps e texts → IsOfWords words e texts
-of_words words course keeps e texts config script switches stops wanted is =
-    let sizes = subst (λ (c : Config). IsOfParts keeps e texts course.stops c course.switches course.seed course.words) config is in
-    let rules = subst (λ (u : Switches). IsOfParts keeps e texts course.stops (config_said words.sizes) u course.seed course.words) switches sizes in
-    let seeded = subst (λ (n : ℕ). IsOfParts keeps e texts course.stops (config_said words.sizes) (switches_said words.switches.items) n course.words) script.0 rules in
-    let counted = subst (λ (n : ℕ). IsOfParts keeps e texts course.stops (config_said words.sizes) (switches_said words.switches.items) words.seed n) script.1 seeded in
-    let ended = subst (λ (b : Bool). IsOfParts keeps e texts b (config_said words.sizes) (switches_said words.switches.items) words.seed words.events) stops counted in
-    subst (λ (k : WantedTexts). IsOfParts k e texts words.stop_anywhere (config_said words.sizes) (switches_said words.switches.items) words.seed words.events) wanted ended
+    → (course.seed ≡ words.seed) × (course.words ≡ words.events) → course.switches ≡ switches_said words.switches.items → course.stops ≡ words.stop_anywhere → course.unclean ≡ unclean_said words.mishaps.items → keeps ≡ wanted_by words
+    → IsOfScript course.config course.switches course.stops course.unclean (head_of course) keeps e texts → IsOfWords words e texts
+of_words words course keeps e texts config script switches stops unclean wanted is =
+    let sizes = subst (λ (c : Config). IsOfParts keeps e texts course.stops course.unclean c course.switches course.seed course.words) config is in
+    let rules = subst (λ (u : Switches). IsOfParts keeps e texts course.stops course.unclean (config_said words.sizes) u course.seed course.words) switches sizes in
+    let seeded = subst (λ (n : ℕ). IsOfParts keeps e texts course.stops course.unclean (config_said words.sizes) (switches_said words.switches.items) n course.words) script.0 rules in
+    let counted = subst (λ (n : ℕ). IsOfParts keeps e texts course.stops course.unclean (config_said words.sizes) (switches_said words.switches.items) words.seed n) script.1 seeded in
+    let ended = subst (λ (b : Bool). IsOfParts keeps e texts b course.unclean (config_said words.sizes) (switches_said words.switches.items) words.seed words.events) stops counted in
+    let unlost = subst (λ (n : ℕ). IsOfParts keeps e texts words.stop_anywhere n (config_said words.sizes) (switches_said words.switches.items) words.seed words.events) unclean ended in
+    subst (λ (k : WantedTexts). IsOfParts k e texts words.stop_anywhere (unclean_said words.mishaps.items) (config_said words.sizes) (switches_said words.switches.items) words.seed words.events) wanted unlost
 
 -- ---- the run by lines
 

@@ -1,5 +1,5 @@
 -- What a run made, put together.
-use Rattle.std.proofs.Common.{◌≡◌, false, Bool, List, [], IfSome}
+use Rattle.std.proofs.Common.{◌≡◌, ℕ, false, Bool, List, [], IfSome}
 use Rattle.std.specs.List.{AllZip}
 use Rattle.eos_evidence.specs.Evidence.{EvidenceParts}
 use Rattle.eos_machine.specs.declared.config.Config.{Config}
@@ -16,16 +16,17 @@ use Rattle.eos_simulate.specs.declared.made.WantedTexts.{WantedTexts}
 use Rattle.eos_simulate.specs.Schedules.{HasRightLogs, HasNoFaultInLogs}
 use Rattle.eos_simulate.specs.Folders.{Texts, IsOfScript, IsOfLines}
 
-pub of_script : (c : Config) (u : Switches) (stops : Bool) (h : Head) (keeps : WantedTexts) (before deeds : List Deed) (e : EvidenceParts) (texts : Texts) → before ≡ [] → (before ≡ [] → IsLeftBy c deeds e)
-    → HasBroken u deeds → (before ≡ [] → stops ≡ false → any_on u ≡ false → LoseNothing c deeds → IsOfSchedule e) → (before ≡ [] → stops ≡ false → any_on u ≡ false → LoseNothing c deeds → HasRightLogs e) → (before ≡ [] → stops ≡ false → any_on u ≡ false → LoseNothing c deeds → HasNoFaultInLogs e) → IsHistoryIf keeps.history h deeds texts.0
-    → AreLabelsIf keeps.labels c stops deeds texts.1 → IsOfScript c u stops h keeps e texts
-of_script c u stops h keeps before deeds e texts none left broken schedule right faultless history labels = record {
+pub of_script : (c : Config) (u : Switches) (stops : Bool) (unclean : ℕ) (h : Head) (keeps : WantedTexts) (before deeds : List Deed) (e : EvidenceParts) (texts : Texts) → before ≡ [] → (before ≡ [] → IsLeftBy c deeds e)
+    → HasBroken u deeds → (before ≡ [] → stops ≡ false → any_on u ≡ false → LoseNothing c deeds → IsOfSchedule e) → (before ≡ [] → stops ≡ false → any_on u ≡ false → LoseNothing c deeds → HasRightLogs e) → (before ≡ [] → stops ≡ false → any_on u ≡ false → LoseNothing c deeds → HasNoFaultInLogs e) → (before ≡ [] → unclean ≡ 0 → LoseNothing c deeds) → IsHistoryIf keeps.history h deeds texts.0
+    → AreLabelsIf keeps.labels c stops deeds texts.1 → IsOfScript c u stops unclean h keeps e texts
+of_script c u stops unclean h keeps before deeds e texts none left broken schedule right faultless lossless history labels = record {
   deeds = deeds;
   left = left none;
   broken = broken;
   schedule = schedule none;
   right = right none;
   faultless = faultless none;
+  lossless = lossless none;
   texts_are = (history, labels);
 }
 

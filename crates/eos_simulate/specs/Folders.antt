@@ -31,7 +31,7 @@ use Rattle.eos_simulate.specs.declared.mistake.Mistake.{Mistake}
 use Rattle.eos_simulate.specs.CollectedRuns.{IsCollectedAs}
 use Rattle.eos_simulate.specs.MistakeTexts.{mistake_word}
 use Rattle.eos_simulate.specs.Schedules.{HasRightLogs, HasNoFaultInLogs}
-use Rattle.eos_simulate.specs.Settings.{config_said, switches_said}
+use Rattle.eos_simulate.specs.Settings.{config_said, switches_said, unclean_said}
 
 -- ---- the run
 
@@ -51,19 +51,21 @@ abbrev pub AreTextsOf : WantedTexts → Head → Config → Bool → List Deed �
 AreTextsOf keeps h c stops deeds texts = IsHistoryIf keeps.history h deeds texts.0 × AreLabelsIf keeps.labels c stops deeds texts.1
 
 -- a script's run, in a cluster of these sizes that breaks these rules, made this evidence, and these texts; where it doesn't stop after the
--- script it comes to rest; of one without broken rules in which no election lost a record the logs are right
-pub record IsOfScript (c : Config) (u : Switches) (stops : Bool) (h : Head) (keeps : WantedTexts) (e : EvidenceParts) (texts : Texts) : Type 0 where
+-- script it comes to rest; of one without broken rules in which no election lost a record the logs are right. None did, where no leader was
+-- to be lost whose followers lack records
+pub record IsOfScript (c : Config) (u : Switches) (stops : Bool) (unclean : ℕ) (h : Head) (keeps : WantedTexts) (e : EvidenceParts) (texts : Texts) : Type 0 where
   pub deeds : List Deed
   pub left : IsLeftBy c deeds e
   pub broken : HasBroken u deeds
   pub schedule : stops ≡ false → any_on u ≡ false → LoseNothing c deeds → IsOfSchedule e
   pub right : stops ≡ false → any_on u ≡ false → LoseNothing c deeds → HasRightLogs e
   pub faultless : stops ≡ false → any_on u ≡ false → LoseNothing c deeds → HasNoFaultInLogs e
+  pub lossless : unclean ≡ 0 → LoseNothing c deeds
   pub texts_are : AreTextsOf keeps h c stops deeds texts
 
 -- the run that these words ask for did
 abbrev pub IsOfWords : Simulation → EvidenceParts → Texts → Type 0
-IsOfWords words e texts = IsOfScript (config_said words.sizes) (switches_said words.switches.items) words.stop_anywhere (head_said words) (wanted_by words) e texts
+IsOfWords words e texts = IsOfScript (config_said words.sizes) (switches_said words.switches.items) words.stop_anywhere (unclean_said words.mishaps.items) (head_said words) (wanted_by words) e texts
 
 -- a run of this schedule did
 pub record IsOfLines (s : Schedule) (stops : Bool) (keeps : WantedTexts) (e : EvidenceParts) (texts : Texts) : Type 0 where

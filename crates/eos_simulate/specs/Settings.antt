@@ -1,5 +1,5 @@
 -- What the words of the command line ask of a simulated cluster.
-use Rattle.std.specs.Prelude.{ℕ, List, Bool, true, Option, min, nat_le, option_map, unwrap_or, bytes_eq}
+use Rattle.std.specs.Prelude.{ℕ, List, Bool, true, Option, min, nat_le, count_by, codes, option_map, unwrap_or, bytes_eq}
 use Rattle.std.specs.Borrow.{Bor}
 use Rattle.std.specs.List.{list_any}
 use Rattle.eos_words.specs.declared.request.Sizes.{Sizes}
@@ -65,3 +65,7 @@ switches_said names = record {
   hide_listing = is_named names HideListing;
   ignore_generation = is_named names IgnoreGeneration;
 }
+
+-- so many of these words say that a leader is lost whose followers lack its last records
+abbrev pub unclean_said : List (Bor (List ℕ)) → ℕ
+unclean_said mishaps = count_by (λ word. bytes_eq word.now (codes "unclean-election")) mishaps

@@ -1,7 +1,7 @@
 //! What a simulated cluster does, as the words of the command line say.
 
-ghost use Rattle.std.specs.Prelude.{◌≡◌, min, bytes_eq, not, ◌&&◌, true, false, None, IfSome, IfOk, option_map, unwrap_or};
-ghost use Rattle.eos_simulate.specs.Settings.{config_said, rates_said, can_bite, is_named, switches_said};
+ghost use Rattle.std.specs.Prelude.{◌≡◌, min, bytes_eq, codes, not, ◌&&◌, true, false, None, IfSome, IfOk, option_map, unwrap_or};
+ghost use Rattle.eos_simulate.specs.Settings.{config_said, rates_said, can_bite, is_named, switches_said, unclean_said};
 ghost use Rattle.eos_simulate.specs.Every.{tiny};
 ghost use Rattle.eos_simulate.specs.steps.Heads.{head_of};
 ghost use Rattle.eos_machine.specs.Switching.{switch_name, any_on};
@@ -68,6 +68,7 @@ impl Course {
         ensures turning { IfOk result (λ course. course.switch_at ≡ words.now.switch_at) }
         ensures shown { IfOk result (λ course. course.is_shown ≡ (not words.now.no_tail && not words.now.stop_anywhere)) }
         ensures stops { IfOk result (λ course. course.stops ≡ words.now.stop_anywhere) }
+        ensures unclean { IfOk result (λ course. course.unclean ≡ unclean_said words.now.mishaps.items) }
     {
         if words.swarm && words.count.is_none() {
             return Err(SimulationFault::Unfit("--swarm", "no --count"));
@@ -274,21 +275,23 @@ fn rate_of(chosen: Option<u64>) -> Option<u16>
 pub(crate) const UNCLEAN: &str = "unclean-election";
 
 /// How many of the words choose it.
-fn unclean_in(words: &[&str]) -> u64 {
-    let mut count = 0u64;
-    for word in words {
-        if *word == UNCLEAN {
-            count = count.saturating_add(1);
-        }
-    }
-    count
+fn unclean_in(words: &[&str]) -> u64
+    ensures { result ≡ unclean_said words.now }
+{
+    words.iter().filter(|word| is_unclean(**word)).count() as u64
+}
+
+fn is_unclean(word: &str) -> bool
+    ensures { result ≡ bytes_eq word.now (codes "unclean-election") }
+{
+    word == UNCLEAN
 }
 
 /// The mishaps of applications that the words choose.
 fn mishaps_of(alloc: Global, words: &[&str]) -> Result<Vec<ChosenMishap>, SimulationFault> {
     let mut mishaps = Vec::new(alloc);
     for word in words {
-        if *word == UNCLEAN {
+        if is_unclean(word) {
             continue;
         }
         match ChosenMishap::from_word(word) {

@@ -1,6 +1,7 @@
 //! Making the evidence, with a history of what is done for it.
 
 ghost use Rattle.std.specs.Prelude.{◌≡◌, [], true, false, IfOk, OnOk};
+ghost use Rattle.eos_machine.specs.Elections.{LosesNothing};
 ghost use Rattle.eos_machine.specs.Schedules.{IsOfSchedule};
 ghost use Rattle.eos_machine.specs.Switching.{any_on};
 ghost use Rattle.eos_simulate.specs.Schedules.{HasRightLogs, HasNoFaultInLogs};
@@ -16,7 +17,8 @@ use std::alloc::{AllocError, Global};
 
 /// What a cluster leaves that is driven by the words of a seed's script. With switches it breaks these rules, if not inside the
 /// script then afterwards, in a few further events each, if they are to be shown; without one its logs have no fault, unless the run stops
-/// after the script, at rest or not, or an election lost records. A history that began with nothing in it has what was done.
+/// after the script, at rest or not, or an election lost records: none does, unless leaders are to be lost whose followers lack some.
+/// A history that began with nothing in it has what was done.
 pub fn simulate(
     alloc: Global,
     course: &Course,
@@ -27,6 +29,7 @@ pub fn simulate(
     ensures schedule { history.old ≡ [] → course.now.stops ≡ false → any_on course.now.switches ≡ false → LoseNothing course.now.config history.new → IfOk result IsOfSchedule }
     ensures right { history.old ≡ [] → course.now.stops ≡ false → any_on course.now.switches ≡ false → LoseNothing course.now.config history.new → IfOk result HasRightLogs }
     ensures faultless { history.old ≡ [] → course.now.stops ≡ false → any_on course.now.switches ≡ false → LoseNothing course.now.config history.new → IfOk result HasNoFaultInLogs }
+    ensures lossless { history.old ≡ [] → course.now.unclean ≡ 0 → OnOk result (LoseNothing course.now.config history.new) }
 {
     let script = Script::from_seed(alloc, course.seed, course.words)?;
     simulate_script(alloc, course, &script, history)
@@ -44,6 +47,7 @@ pub(crate) fn simulate_script(
     ensures of_schedule { history.old ≡ [] → course.now.stops ≡ false → any_on course.now.switches ≡ false → LoseNothing course.now.config history.new → IfOk result IsOfSchedule }
     ensures right_logs { history.old ≡ [] → course.now.stops ≡ false → any_on course.now.switches ≡ false → LoseNothing course.now.config history.new → IfOk result HasRightLogs }
     ensures without_fault { history.old ≡ [] → course.now.stops ≡ false → any_on course.now.switches ≡ false → LoseNothing course.now.config history.new → IfOk result HasNoFaultInLogs }
+    ensures without_loss { history.old ≡ [] → course.now.unclean ≡ 0 → OnOk result (LoseNothing course.now.config history.new) }
 {
     let cluster = broken(alloc, course, script, history)?;
     let evidence = evidence_of(&cluster, course.stops)?;
@@ -61,12 +65,14 @@ fn broken(
     ensures kept { IfOk result (λ cluster. IsKept (new_course course.now.config) history.old cluster history.new) }
     ensures honest { any_on course.now.switches ≡ false → IfOk result (λ cluster. cluster.honest ≡ true) }
     ensures rules { OnOk result (HasBroken course.now.switches history.new) }
+    ensures lossless { course.now.unclean ≡ 0 → IfOk result (λ cluster. LosesNothing cluster.world) }
 {
     let mut cluster = driven(alloc, course, script, history)?;
     break_rules(alloc, &mut cluster, history, course)?;
     Ok(cluster)
 }
 
+#[tactic(auto, using(crate::proofs::Deeds::lossless_new))]
 fn driven(
     alloc: Global,
     course: &Course,
@@ -75,6 +81,7 @@ fn driven(
 ) -> Result<Cluster, SimulationFault>
     ensures kept { IfOk result (λ cluster. IsKept (new_course course.now.config) history.old cluster history.new) }
     ensures honest { any_on course.now.switches ≡ false → IfOk result (λ cluster. cluster.honest ≡ true) }
+    ensures lossless { course.now.unclean ≡ 0 → IfOk result (λ cluster. LosesNothing cluster.world) }
 {
     let mut cluster = new_cluster(alloc, course.config)?;
     let settings = course.settings();
@@ -108,6 +115,7 @@ fn break_rules(
     ensures kept { IsKept cluster.old history.old cluster.new history.new }
     ensures honest { any_on course.now.switches ≡ false → cluster.new.honest ≡ cluster.old.honest }
     ensures rules { OnOk result (HasBroken course.now.switches history.new) }
+    ensures lossless { LosesNothing cluster.old.world → LosesNothing cluster.new.world }
 {
     if !course.switches.any_on() {
         return Ok(());
@@ -124,7 +132,8 @@ fn show_if(
     history: &mut History,
     course: &Course,
 ) -> Result<(), AllocError>
-    ensures { IsKept cluster.old history.old cluster.new history.new }
+    ensures kept { IsKept cluster.old history.old cluster.new history.new }
+    ensures lossless { LosesNothing cluster.old.world → LosesNothing cluster.new.world }
 {
     if course.is_shown {
         return show(alloc, cluster, history, course.switches);
@@ -139,7 +148,8 @@ fn show(
     history: &mut History,
     switches: Switches,
 ) -> Result<(), AllocError>
-    ensures { IsKept cluster.old history.old cluster.new history.new }
+    ensures kept { IsKept cluster.old history.old cluster.new history.new }
+    ensures lossless { LosesNothing cluster.old.world → LosesNothing cluster.new.world }
 {
     for switch in SWITCHES {
         if is_on(switches, switch) {

@@ -38,7 +38,7 @@ pub(crate) fn by_script(
     course: &Course,
     keeps: WantedTexts,
 ) -> Result<Made, SimulationFault>
-    ensures { IfOk result (λ made. IsOfScript course.now.config course.now.switches course.now.stops (head_of course.now) keeps made.evidence (option_map string_bytes made.history, option_map string_bytes made.labels)) }
+    ensures { IfOk result (λ made. IsOfScript course.now.config course.now.switches course.now.stops course.now.unclean (head_of course.now) keeps made.evidence (option_map string_bytes made.history, option_map string_bytes made.labels)) }
 {
     let mut history = History::new(alloc);
     let evidence = simulate(alloc, course, &mut history)?;
