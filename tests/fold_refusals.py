@@ -426,14 +426,13 @@ def refused_places(tests):
     place.back(order[0])
     place.back(order[1])
 
-    first = os.path.join(folder, order[0])
     os.remove(os.path.join(folder, "in-0", "00000000000000000000.fold"))
     tests.same("a fold that wasn't carried", tests.check(folder), (1, "no 1.10 End in-0 offset=0 end=2\n", ""))
     picture = os.path.join(tests.room, "picture.svg")
     tests.same("all of it", tests.check(folder, "--all"), (1, "no 1.10 End in-0 offset=0 end=2\nfaults=1\n", ""))
     for words in ["explain", folder], ["explain", "--fault", "1", folder]:
         status, out, err = tests.run(*words)
-        tests.same(f"{words[0]} of folds", (status, out, err.split("\n")[0]), (2, "", f"eoscheck: {first}: Fold"))
+        tests.same(f"{words[0]} of folds", (status, out.split("\n")[0], err), (1, "no 1.10 End in-0 offset=0 end=2", ""))
     said = tests.run("draw", "--fault", "1", folder, picture)
     tests.same("draw of folds", (said[0], said[1].split(" ")[0], said[2], os.path.exists(picture)), (1, "drew", "", True))
     os.remove(picture)

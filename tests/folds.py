@@ -260,6 +260,37 @@ def fewer(tests):
     tests.same("faults of phases 1 and 2 are tried", tried > 40, True)
 
 
+# ---- stories over folds
+
+
+def told_of(tests, folder, name):
+    """Whether a folder's story shows all of its rows; then it is the same over folds of all partitions that it doesn't name, and where
+    these are folds too, the first of them that it asks for is refused."""
+    status, out, err = tests.run("explain", folder)
+    if status != 1 or ".. and " in out:
+        return False
+    manifest, apps = manifest_of(folder)
+    ours = {b"__consumer_offsets", b"__transaction_state"}.union(*(app.sources | app.outputs for app in apps))
+    named = {it for it in partitions_of(folder) if re.search(rf"\b{re.escape(it)}(?![0-9])", out) or name_of(it)[0] not in ours}
+    named |= faulty_in(tests.check(folder, "--all")[1].splitlines())
+    folds = folds_of(folder)[0]
+    made = with_folds(folder, folds, tests.new("told"), lambda path: os.path.dirname(path) not in named)
+    tests.same(f"{name}, its story over folds", tests.run("explain", made), (status, out.replace(folder, made), err.replace(folder, made)))
+    made = with_folds(folder, folds, tests.new("told"))
+    status, out, err = tests.run("explain", made)
+    found = re.match(rf"eoscheck: {re.escape(made)}/([^/\n]+)/[0-9]{{20}}[.]fold: Fold\n", err)
+    tests.same(f"{name}, its story where all are folds", (status, out, bool(found) and found[1] in named), (2, "", True))
+    return True
+
+
+def stories(tests):
+    """Stories need the logs of the partitions that they name, and of no others."""
+    with open("tests/evidence/expected.tsv", encoding="utf-8") as file:
+        rows = [line.rstrip("\n").split("\t") for line in file]
+    told = [told_of(tests, os.path.join("tests/evidence", name), name) for name, _, line in rows if line.startswith("no ")]
+    tests.same("stories over folds are tried", sum(told) > 60, True)
+
+
 # ---- worked folds, and how large folds are
 
 
@@ -321,6 +352,7 @@ PARTS = {
     "faults": faults,
     "nothing": nothing,
     "fewer": fewer,
+    "stories": stories,
     "sizes": sizes,
     "refused_files": fold_refusals.refused_files,
     "refused_places": fold_refusals.refused_places,

@@ -49,6 +49,7 @@ TABLE = {
     "run": """
         eos_board: into_runs
         eos_check: is_run_of made_run next_run own_run run_of runs_of
+        eos_explaining: own_run run_of
         eos_fold_file: run run_front run_of
         eos_kept: KeptRun Run kept_run run
         eos_source: next_run
@@ -56,6 +57,7 @@ TABLE = {
     "part": """
         eos_check: part_of parts parts_from
         eos_commits: PartRole judge_part
+        eos_explaining: parts_of
         eos_fold: Part part
         eos_kept: KeptPart Part log_part part
         eos_lineage: parts take_part

@@ -1,12 +1,17 @@
-mod FirstRefused
-mod FolderAnswers
+pub mod KindsCounted
+pub mod PickedFaults
 pub mod NamedFaults
-mod ReadAlone
-mod Tellings
-mod LinesOnce
-mod LinesShown
-mod PartsTold
-mod StoriesMore
-mod FindingsTold
-mod KindsCounted
-mod PickedFaults
+pub mod LinesOnce
+pub mod LinesShown
+pub mod PartsTold
+pub mod Tellings
+pub mod OwnNames
+pub mod Covered
+pub mod PartitionsAgain
+pub mod WholeLogs
+pub mod SeenLogs
+pub mod StoryThere
+pub mod StoriesMore
+pub mod Answered
+pub mod Untold
+pub mod FolderAnswers

@@ -7,9 +7,9 @@ use Rattle.eos_text.specs.Writing.{WritesFront}
 use Rattle.eos_explaining.specs.declared.answer.Answer.{Answer}
 use Rattle.eos_explaining.specs.declared.answer.Answer.TheVariants as answers
 use Rattle.eos_explaining.specs.declared.folder.Explained.TheVariants as say
-use Rattle.eos_explaining.specs.Explaining.{IsAnswer, IsYes, IsTheStory, AreFewer}
+use Rattle.eos_explaining.specs.Explaining.{IsYes, IsTheStory, AreFewer}
 use Rattle.eos_explaining.specs.Folders.{number_of, AreTooFew}
-use Rattle.eos_explaining.specs.steps.Tellings.{Tells, TellsFront}
+use Rattle.eos_explaining.specs.steps.Tellings.{IsAnswer, Tells, TellsFront}
 
 -- ---- a yes
 

@@ -1,5 +1,5 @@
 -- What `explain` answers for an evidence: the line of a yes and the notes, the story of one of all faults, or how many there are.
-use Rattle.std.specs.Prelude.{◌≡◌, ◌<◌, ◌⊎◌, ◌++◌, ⊤, ℕ, suc, List, All, map, length, Option, Some, None, slice_get, codes, string_bytes, false}
+use Rattle.std.specs.Prelude.{◌≡◌, ◌<◌, ◌⊎◌, ◌++◌, ⊤, ℕ, suc, List, All, map, length, Option, Some, None, slice_get, codes, false}
 use Rattle.std.specs.Fmt.{decimal}
 use Rattle.std.specs.Option.{option_copied}
 use Rattle.eos_text.specs.Catalogue.{IsPageOf}
@@ -24,9 +24,8 @@ use Rattle.eos_story.specs.declared.row.Row.{Row}
 use Rattle.eos_story.specs.Rows.{IsTrue}
 use Rattle.eos_story.specs.Wholeness.{IsWhole}
 use Rattle.eos_explaining.specs.declared.whole_story.Story.{Story}
+use Rattle.eos_explaining.specs.Seen.{seen_logs}
 use Rattle.eos_explaining.specs.Stories.{story_text}
-use Rattle.eos_explaining.specs.declared.answer.Answer.{Answer}
-use Rattle.eos_explaining.specs.declared.answer.Answer.TheVariants as answers
 
 -- the code of a fault's kind: its phase, a dot, and its number
 abbrev pub code_of : Fault → List ℕ
@@ -40,7 +39,7 @@ HasItsPage (No fault) page = IsPageOf (code_of fault) page
 -- the rows answer all that a fault of its kind is asked
 abbrev pub AreWhole : EvidenceParts → List PartLog → Verdict → List Row → Type 0
 AreWhole e logs (Yes counts) rows = ⊤
-AreWhole e logs (No fault) rows = IsWhole e logs fault rows
+AreWhole e logs (No fault) rows = IsWhole e.spec.apps e.partitions logs fault rows
 
 -- the text is the story of the fault that this verdict names: of rows that are true of these logs and answer all questions, with its
 -- page, the line of how many faults there are in this list of all, and of which kinds, and the notes of the evidence, in this folder
@@ -50,12 +49,11 @@ pub record IsStoryOf (folder : List ℕ) (e : EvidenceParts) (logs : List PartLo
   pub of_verdict : story.verdict.now ≡ verdict
   pub at : option_copied story.place ≡ place_in verdict
   pub rows : All (IsTrue e.partitions logs) story.rows.now
-  pub of_these : story.partitions.now ≡ e.partitions
   pub whole : AreWhole e logs verdict story.rows.now
   pub page : HasItsPage verdict (option_copied story.page)
   pub counted : story.counts.now ≡ counts_line told
   pub notes : AreAllNotes e story.notes.now
-  pub says : text ≡ story_text story
+  pub says : text ≡ story_text e.partitions story
 
 -- all faults of the evidence, each as a verdict names it
 pub record AreTold (e : EvidenceParts) (logs : List PartLog) (told : List Verdict) : Type 0 where
@@ -64,9 +62,9 @@ pub record AreTold (e : EvidenceParts) (logs : List PartLog) (told : List Verdic
   pub are : AreAllFaults e logs of faults
   pub named : told ≡ map No faults
 
--- the logs as a story sees them: all that they say, or what is wanted of it
+-- the logs as a story sees them: what is wanted of them; or, where it looks for claims, all that those say of whose topics no application is
 abbrev pub AreSeen : EvidenceParts → List PartLog → List PartLog → Type 0
-AreSeen e logs seen = (seen ≡ logs) ⊎ (seen ≡ wanted_logs e.spec.apps logs)
+AreSeen e logs seen = (seen ≡ wanted_logs e.spec.apps logs) ⊎ (seen ≡ seen_logs e.spec.apps logs)
 
 -- the story of the fault of this number, counted from 1
 pub record IsTheStory (folder : List ℕ) (e : EvidenceParts) (number : ℕ) (text : List ℕ) : Type 0 where
@@ -95,8 +93,3 @@ pub record IsYes (e : EvidenceParts) (line notes : List ℕ) : Type 0 where
   pub is : IsVerdict e (Yes counts)
   pub says : line ≡ verdict_line (Yes counts)
   pub noted : IsAllNotesText e false notes
-
-abbrev pub IsAnswer : List ℕ → EvidenceParts → ℕ → Answer → Type 0
-IsAnswer folder e number (answers.Yes line notes) = IsYes e (string_bytes line) (string_bytes notes)
-IsAnswer folder e number (answers.Story text) = IsTheStory folder e number (string_bytes text)
-IsAnswer folder e number (answers.Fewer count) = AreFewer e number count

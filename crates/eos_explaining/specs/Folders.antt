@@ -1,10 +1,20 @@
--- What `explain` writes of the evidence in a folder, and what it tells.
+-- What `explain` writes of the evidence in a folder, and what it tells. Some partitions are read again: of a disk of which nothing is known
+-- it is true of an evidence that has these as they were read again.
 use Rattle.std.specs.Prelude.{◌≡◌, ◌⊎◌, ℕ, List, Option, None, Some, string_bytes}
 use Rattle.std.specs.Io.KnownBytes.{Appends, Keeps}
 use Rattle.eos_verdict.specs.declared.verdict.Counts.{Counts}
 use Rattle.eos_verdict.specs.declared.verdict.Verdict.TheVariants.{Yes}
 use Rattle.eos_check.specs.Verdicts.{IsVerdict}
-use Rattle.eos_evidence.specs.Evidence.{EvidenceParts}
+use Rattle.eos_base.specs.Members.{Has}
+use Rattle.eos_disk.specs.Entries.{Entry}
+use Rattle.eos_disk.specs.Shapes.{IsShapeAt}
+use Rattle.eos_disk.specs.declared.names.Form.{Form}
+use Rattle.eos_evidence.specs.declared.partition.Partition.{Partition}
+use Rattle.eos_evidence.specs.Evidence.{EvidenceParts, segments_of}
+use Rattle.eos_source.specs.Said.{Known}
+use Rattle.eos_source.specs.Saying.{known_at}
+use Rattle.eos_source.specs.Shapes.{HoldsAsSaid}
+use Rattle.eos_source_check.specs.Again.{AreAgain, AreThere, IsRead, IsThere}
 use Rattle.eos_text.specs.Writing.{WritesFront}
 use Rattle.eos_explaining.specs.declared.folder.Explained.{Explained}
 use Rattle.eos_explaining.specs.declared.folder.Explained.TheVariants as told
@@ -31,3 +41,29 @@ abbrev pub IsFrontOfExplained : List ℕ → EvidenceParts → Option ℕ → Op
 IsFrontOfExplained folder e fault old new =
     ((fault ≡ None) × (line : List ℕ) × (notes : List ℕ) × IsYes e line notes × WritesFront old new line)
     ⊎ ((text : List ℕ) × IsTheStory folder e (number_of fault) text × WritesFront old new text)
+
+-- ---- as it is read
+
+-- these partitions were read again, each by its name
+abbrev pub AreRead : (ℕ → Known) → List Partition → List Partition → Type 0
+AreRead known shapes read = (p : Partition) → Has read p → IsRead known shapes p
+
+-- an evidence has them so
+abbrev pub HasThem : EvidenceParts → List Partition → Type 0
+HasThem e read = (p : Partition) → Has read p → IsThere e.partitions p
+
+-- so it is with each evidence of this shape whose segments are such as the pieces said, and which has the partitions as they were read
+-- again: those with faults by themselves, and those that the story names
+pub record HoldsAsRead (known : ℕ → Known) (shape : EvidenceParts) (Holds : EvidenceParts → Type 0) : Type 0 where
+  pub again : List (Option Partition)
+  pub listed : AreAgain known 0 shape.partitions again
+  pub read : List Partition
+  pub named : AreRead known shape.partitions read
+  pub are : HoldsAsSaid known shape (λ e. AreThere again e.partitions → HasThem e read → Holds e)
+
+-- a shape stands in this folder, and so it is with each evidence of it whose segments are such as their files say
+pub record HoldsOf (holds : List ℕ → Entry) (folder : List ℕ) (Holds : EvidenceParts → Type 0) : Type 0 where
+  pub shape : EvidenceParts
+  pub forms : List Form
+  pub is : IsShapeAt holds folder shape forms
+  pub each : HoldsAsRead (known_at holds folder (segments_of shape.partitions) forms) shape Holds

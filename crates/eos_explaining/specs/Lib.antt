@@ -11,3 +11,4 @@ pub mod Told
 pub mod Sentences
 pub mod Commands
 pub mod Stories
+pub mod Seen

@@ -3,3 +3,5 @@ pub mod Tellings
 pub mod Found
 pub mod Counting
 pub mod Kinds
+pub mod Again
+pub mod Untold

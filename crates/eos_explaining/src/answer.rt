@@ -1,53 +1,53 @@
-//! The answer of `explain` for an evidence.
+//! The answer of `explain` for an evidence whose pieces a source has.
 
-ghost use Rattle.std.specs.Prelude.{◌<◌, ◌≤◌, ◌-◌, false, ℕ, List, IfOk, IfSome, string_bytes};
+ghost use Rattle.std.specs.Prelude.{◌≡◌, ◌<◌, ◌≤◌, ◌-◌, false, true, length, ℕ, List, IfOk, IfErr, IfSome, alloc_error, string_bytes};
+ghost use Rattle.eos_evidence.specs.Evidence.{EvidenceParts};
 ghost use Rattle.eos_notes.specs.Lines.{IsAllNotesText};
 ghost use Rattle.eos_notes.specs.Notes.{AreAllNotes};
+ghost use Rattle.eos_source.specs.FirstRefusals.{pieces_of};
+ghost use Rattle.eos_source.specs.Refusals.{AreOpened};
+ghost use Rattle.eos_source.specs.Said.{known_by};
 ghost use Rattle.eos_source_check.specs.Judged.{IsJudgedFor};
-ghost use Rattle.eos_explaining.specs.Explaining.{IsAnswer, IsTheStory};
-ghost use Rattle.eos_explaining.specs.steps.Found.{AreFindings, AreItsSeen};
+ghost use Rattle.eos_source_check.specs.Refusals.{IsEarned, IsUnread, IsUntold};
+ghost use Rattle.eos_explaining.specs.Explaining.{IsTheStory};
+ghost use Rattle.eos_explaining.specs.steps.Tellings.{IsAnswer};
+ghost use Rattle.eos_explaining.specs.Folders.{HoldsAsRead};
+ghost use Rattle.eos_explaining.specs.steps.Found.{AreFoundBy, HoldsBy};
+ghost use Rattle.eos_explaining.specs.steps.Untold.{IsAfter};
 
+use crate::again::Pieces;
 use crate::kinds::{Pick, line_of, picked_of};
-use crate::seen::{seen_of, whole_logs};
+use crate::seen::{parts_of, seen_logs};
 use crate::story::{About, story_of};
 use eos_base::Workers;
-use eos_board::Gate;
 use eos_check::Verdict;
-use eos_evidence::Evidence;
+use eos_evidence::Spec;
 use eos_notes::{Note, all_lines, all_notes};
-use eos_source_check::{Judged, all_faults, judge_evidence};
-use eos_story::Scene;
+use eos_source::Source;
+use eos_source_check::{Judged, Unlisted, all_faults, judge_source};
 use eos_verdict::verdict_line;
 use std::alloc::{AllocError, Global};
-use std::sync::Wait;
 use std::thread::Threads;
 
 /// What is asked of `explain`.
 #[derive(Clone, Copy)]
-pub struct Asked<'a> {
+pub(crate) struct Asked<'a> {
     /// The folder of the evidence, as it was named.
-    pub folder: &'a str,
-    pub workers: Workers,
+    pub(crate) folder: &'a str,
+    pub(crate) workers: Workers,
     /// Which fault of the list of all it is, from 1 on.
-    pub number: u64,
+    pub(crate) number: u64,
 }
 
 /// What `explain` answers.
 #[derive(Drop)]
-pub enum Answer {
+pub(crate) enum Answer {
     /// The verdict is yes: its line, and the lines of the notes.
     Yes { line: String, notes: String },
     /// The story of the fault that was asked for.
     Story(String),
     /// There are fewer faults, so many.
     Fewer(u64),
-}
-
-/// An evidence, and what was judged of it.
-#[derive(Clone, Copy)]
-pub(crate) struct Judgement<'a> {
-    pub(crate) evidence: &'a Evidence,
-    pub(crate) judged: &'a Judged,
 }
 
 /// How many faults an evidence has, the line that says of which kinds, those that are held, each as the verdict that names it, and the
@@ -61,40 +61,38 @@ pub(crate) struct Findings {
 }
 
 /// The notes of the evidence that was judged.
-fn noted(alloc: Global, evidence: &Evidence, judged: &Judged) -> Result<Vec<Note>, AllocError>
-    requires { IsJudgedFor judged.now evidence.now }
-    ensures { IfOk result (λ found. AreAllNotes evidence.now found.items) }
+fn noted(alloc: Global, spec: &Spec, judged: &Judged) -> Result<Vec<Note>, AllocError>
+    ensures { IfOk result (λ found. (e : EvidenceParts) → e.spec ≡ spec.now → IsJudgedFor judged.now e → AreAllNotes e found.items) }
 {
     let epochs = judged.epochs.as_slice();
-    let found = all_notes(alloc, evidence.spec(), &judged.logs, epochs)?;
+    let found = all_notes(alloc, spec, &judged.logs, epochs)?;
     Ok(found)
 }
 
 /// The lines of these notes.
-fn noted_lines(alloc: Global, evidence: &Evidence, judged: &Judged) -> Result<String, AllocError>
-    requires { IsJudgedFor judged.now evidence.now }
-    ensures { IfOk result (λ text. IsAllNotesText evidence.now false (string_bytes text)) }
+fn noted_lines(alloc: Global, spec: &Spec, judged: &Judged) -> Result<String, AllocError>
+    ensures { IfOk result (λ text. (e : EvidenceParts) → e.spec ≡ spec.now → IsJudgedFor judged.now e → IsAllNotesText e false (string_bytes text)) }
 {
     let epochs = judged.epochs.as_slice();
-    let text = all_lines(alloc, evidence.spec(), &judged.logs, epochs, false)?;
+    let text = all_lines(alloc, spec, &judged.logs, epochs, false)?;
     Ok(text)
 }
 
 /// What was found in the evidence that was judged, with the faults that are picked. The list of all faults is dropped as
 /// soon as they are counted; that of outputs has no names.
-pub(crate) fn found_in(
+pub(crate) fn found_in<S: Source>(
     alloc: Global,
-    evidence: &Evidence,
+    pieces: &Pieces<'_, S>,
     judged: &Judged,
     pick: Pick,
-) -> Result<Findings, AllocError>
-    requires { IsJudgedFor judged.now evidence.now }
-    ensures { IfOk result (AreFindings evidence.now pick.from pick.most) }
+) -> Result<Findings, Unlisted<S::Fault>>
+    ensures found { IfOk result (AreFoundBy (known_by (S.said pieces.now.source.now) (S.is_log pieces.now.source.now)) pieces.now.shape.now judged.now pick.from pick.most) }
+    ensures earned { IfErr result (IsEarned (known_by (S.said pieces.now.source.now) (S.is_log pieces.now.source.now)) (S.outcomes pieces.now.source.now) pieces.now.shape.now.partitions judged.now.logs.faults.items) }
 {
-    let faults = all_faults(alloc, evidence, &judged.logs)?;
+    let faults = all_faults(alloc, pieces.source, pieces.shape, &judged.logs)?;
     let picked = picked_of(alloc, faults, pick)?;
     let line = line_of(alloc, &picked.counts)?;
-    let notes = noted(alloc, evidence, judged)?;
+    let notes = noted(alloc, pieces.shape.spec(), judged)?;
     Ok(Findings {
         all: picked.counts.all,
         line,
@@ -103,112 +101,118 @@ pub(crate) fn found_in(
     })
 }
 
-/// The answer to an evidence that was judged, where the verdict is yes.
-fn yes_of(alloc: Global, evidence: &Evidence, judged: &Judged) -> Result<Option<Answer>, AllocError>
-    requires { IsJudgedFor judged.now evidence.now }
-    ensures { IfOk result (λ answer. (folder : List ℕ) (number : ℕ) → IfSome answer (IsAnswer folder evidence.now number)) }
+/// The answer where the verdict is yes.
+fn yes_of(alloc: Global, spec: &Spec, judged: &Judged) -> Result<Option<Answer>, AllocError>
+    ensures { IfOk result (λ answer. (e : EvidenceParts) (folder : List ℕ) (number : ℕ) → e.spec ≡ spec.now → IsJudgedFor judged.now e → IfSome answer (IsAnswer folder e number)) }
 {
     match &judged.verdict {
         Verdict::Yes(_) => {
             let line = verdict_line(alloc, &judged.verdict)?;
-            let notes = noted_lines(alloc, evidence, judged)?;
+            let notes = noted_lines(alloc, spec, judged)?;
             Ok(Some(Answer::Yes { line, notes }))
         }
         Verdict::No(_) => Ok(None),
     }
 }
 
-/// The story of the fault of this number, which alone is held.
-fn told_of_number(
-    scene: &Scene<'_>,
-    folder: &str,
-    found: &Findings,
-    number: u64,
-) -> Result<String, AllocError>
-    requires seen { AreItsSeen scene.now.evidence.now scene.now.logs.now }
-    requires found { AreFindings scene.now.evidence.now (number - 1) 1 found.now }
-    requires first { 0 < number }
-    requires inside { number ≤ found.now.all }
-    ensures { IfOk result (λ text. IsTheStory folder.now scene.now.evidence.now number (string_bytes text)) }
+/// This answer, which needs nothing more of what was judged.
+fn settled(answer: Answer, judged: Judged) -> Answer
+    ensures { result ≡ answer }
 {
+    drop(judged);
+    answer
+}
+
+/// The story of the fault of this number, which alone is held.
+fn told_of_number<S: Source>(
+    alloc: Global,
+    pieces: &Pieces<'_, S>,
+    judged: Judged,
+    asked: &Asked<'_>,
+    found: &Findings,
+) -> Result<String, Unlisted<S::Fault>>
+    requires found { AreFoundBy (known_by (S.said pieces.now.source.now) (S.is_log pieces.now.source.now)) pieces.now.shape.now judged (asked.now.number - 1) 1 found.now }
+    requires first { 0 < asked.now.number }
+    requires inside { asked.now.number ≤ found.now.all }
+    ensures told { IfOk result (λ text. HoldsBy (known_by (S.said pieces.now.source.now) (S.is_log pieces.now.source.now)) pieces.now.shape.now judged (λ e. IsTheStory asked.now.folder.now e asked.now.number (string_bytes text))) }
+    ensures unread { IfErr result (IsUnread (S.outcomes pieces.now.source.now) (pieces_of pieces.now.shape.now)) }
+{
+    let mut read = Vec::new(alloc);
+    let told = found.told.as_slice();
+    let parts = seen_logs(alloc, pieces, &mut read, parts_of(judged), told)?;
     let about = About {
-        folder,
+        folder: asked.folder,
         counts: found.line.as_str(),
         notes: found.notes.as_slice(),
+        logs: parts.as_slice(),
     };
-    let story = story_of(scene, about, &found.told[0])?;
+    let story = story_of(alloc, pieces, &mut read, &about, &told[0])?;
     Ok(story)
 }
 
 /// The answer where the verdict is no: the story of the fault of this number, or how many there are.
-fn told_no<G: Gate>(
+fn told_no<S: Source>(
     alloc: Global,
-    rt: &(impl Threads + Wait + Sync),
-    judgement: Judgement<'_>,
+    pieces: &Pieces<'_, S>,
+    judged: Judged,
     asked: &Asked<'_>,
-    gate: &G,
-) -> Result<Answer, AllocError>
-    requires { IsJudgedFor judgement.judged.now judgement.evidence.now }
-    ensures { IfOk result (IsAnswer asked.now.folder.now judgement.entry.evidence.now asked.now.number) }
+) -> Result<Answer, Unlisted<S::Fault>>
+    ensures answer { IfOk result (λ answer. HoldsBy (known_by (S.said pieces.now.source.now) (S.is_log pieces.now.source.now)) pieces.now.shape.now judged (λ e. IsAnswer asked.now.folder.now e asked.now.number answer)) }
+    ensures refused { IfErr result (IsAfter (known_by (S.said pieces.now.source.now) (S.is_log pieces.now.source.now)) (S.outcomes pieces.now.source.now) pieces.now.shape.now.partitions judged) }
 {
-    let Judgement { evidence, judged } = judgement;
     let number = asked.number;
     let pick = Pick {
         from: number.saturating_sub(1),
         most: 1,
     };
-    let found = found_in(alloc, evidence, judged, pick)?;
+    let found = found_in(alloc, pieces, &judged, pick)?;
     let count = found.all;
     if number == 0 || number > count {
         return Ok(Answer::Fewer(count));
     }
-    let whole = whole_logs(alloc, rt, evidence, asked.workers, gate)?;
-    let scene = Scene {
-        alloc,
-        evidence,
-        logs: seen_of(evidence, judged, whole.as_ref()),
-    };
-    let story = told_of_number(&scene, asked.folder, &found, number)?;
+    let story = told_of_number(alloc, pieces, judged, asked, &found)?;
     Ok(Answer::Story(story))
 }
 
-/// The answer to an evidence that was judged.
-fn answer_of<G: Gate>(
+/// The answer of what was judged.
+fn answer_judged<S: Source>(
     alloc: Global,
-    rt: &(impl Threads + Wait + Sync),
-    judgement: Judgement<'_>,
+    pieces: &Pieces<'_, S>,
+    judged: Judged,
     asked: &Asked<'_>,
-    gate: &G,
-) -> Result<Answer, AllocError>
-    requires { IsJudgedFor judgement.judged.now judgement.evidence.now }
-    ensures { IfOk result (IsAnswer asked.now.folder.now judgement.entry.evidence.now asked.now.number) }
+) -> Result<Answer, Unlisted<S::Fault>>
+    ensures answer { IfOk result (λ answer. HoldsBy (known_by (S.said pieces.now.source.now) (S.is_log pieces.now.source.now)) pieces.now.shape.now judged (λ e. IsAnswer asked.now.folder.now e asked.now.number answer)) }
+    ensures refused { IfErr result (IsAfter (known_by (S.said pieces.now.source.now) (S.is_log pieces.now.source.now)) (S.outcomes pieces.now.source.now) pieces.now.shape.now.partitions judged) }
 {
-    match yes_of(alloc, judgement.evidence, judgement.judged)? {
-        Some(answer) => Ok(answer),
-        None => told_no(alloc, rt, judgement, asked, gate),
+    match yes_of(alloc, pieces.shape.spec(), &judged)? {
+        Some(answer) => Ok(settled(answer, judged)),
+        None => {
+            let answer = told_no(alloc, pieces, judged, asked)?;
+            Ok(answer)
+        }
     }
 }
 
 /// The story of a fault of the evidence, of this number in the list of all, from 1 on; or the line of a yes, or how many faults
 /// there are. The verdict, the list and the records of the story are worked out of what is kept of its logs, as by `check`, and of the list
-/// only that fault is held; where batches stand, and what headers say, is read of the bytes again. Only where a partition's topic is named
-/// by no application are all bytes folded for the story; the workers pass the gate then.
-///
-/// # Errors
-/// Only want of memory.
-pub fn explain<G: Gate>(
+/// only that fault is held. Only the partitions that the story names are read again, whole: where batches stand, and what headers say, is
+/// read of their bytes; where it looks for claims, those too of whose topics no application is.
+#[tactic(auto, using(crate::proofs::Answered::of_judged, crate::proofs::Untold::unjudged))]
+pub(crate) fn explain<S: Source, R: Threads + Sync>(
     alloc: Global,
-    rt: &(impl Threads + Wait + Sync),
-    evidence: &Evidence,
+    threads: &R,
+    pieces: Pieces<'_, S>,
     asked: &Asked<'_>,
-    gate: &G,
-) -> Result<Answer, AllocError>
-    ensures { IfOk result (IsAnswer asked.now.folder.now evidence.now asked.now.number) }
+) -> Result<Answer, Unlisted<S::Fault>>
+    ensures answer { IfOk result (λ answer. HoldsAsRead (known_by (S.said pieces.entry.source.now) (S.is_log pieces.entry.source.now)) pieces.entry.shape.now (λ e. IsAnswer asked.now.folder.now e asked.now.number answer)) }
+    ensures opened { IfOk result (λ answer. AreOpened (S.outcomes pieces.entry.source.now) (pieces_of pieces.entry.shape.now)) }
+    ensures refused { IfErr result (IsUntold (S.outcomes pieces.entry.source.now) (S.Fault.from_gives alloc_error) (pieces_of pieces.entry.shape.now) true) }
 {
-    let judged = judge_evidence(alloc, rt, evidence, asked.workers)?;
-    let judgement = Judgement {
-        evidence,
-        judged: &judged,
-    };
-    answer_of(alloc, rt, judgement, asked, gate)
+    match judge_source(alloc, threads, pieces.source, pieces.shape, asked.workers) {
+        Ok(judged) => {
+            let answer = answer_judged(alloc, &pieces, judged, asked)?;
+            Ok(answer)
+        }
+        Err(fault) => Err(Unlisted::Refused(fault)),
+    }
 }

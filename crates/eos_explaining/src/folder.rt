@@ -1,33 +1,34 @@
 //! `explain` of a folder: from the bytes of its files to the story that is written.
 
-ghost use Rattle.std.specs.Prelude.{◌≡◌, ◌≢◌, IfOk, IfErr, Err};
+ghost use Rattle.std.specs.Prelude.{◌≡◌, ◌≢◌, true, IfOk, IfErr, Err};
 ghost use Rattle.std.specs.Io.KnownBytes.{Keeps};
-ghost use Rattle.eos_evidence.specs.Evidence.{EvidenceParts};
-ghost use Rattle.eos_disk.specs.Reading.{IsReadWhole};
+ghost use Rattle.eos_evidence.specs.Evidence.{EvidenceParts, segments_of};
 ghost use Rattle.eos_disk.specs.Shapes.{AreKnown};
-ghost use Rattle.eos_source.specs.Saying.{StandsAt};
-ghost use Rattle.eos_explaining.specs.Explaining.{IsAnswer};
-ghost use Rattle.eos_explaining.specs.Folders.{number_of, IsExplained, IsFrontOfExplained};
-ghost use Rattle.eos_explaining.specs.Refused.{IsFirst, IsFirstOfWhole};
-ghost use Rattle.eos_explaining.specs.steps.Tellings.{Tells, TellsFront};
+ghost use Rattle.eos_source.specs.FirstRefusals.{IsOfPieces, outcomes_of, pieces_of};
+ghost use Rattle.eos_source.specs.Refusals.{AreOpened};
+ghost use Rattle.eos_source.specs.Saying.{known_at, StandsAt};
+ghost use Rattle.eos_explaining.specs.Folders.{number_of, IsExplained, IsFrontOfExplained, HoldsAsRead, HoldsOf};
+ghost use Rattle.eos_explaining.specs.Refused.{IsFirst, IsFirstAgain};
+ghost use Rattle.eos_explaining.specs.steps.Tellings.{IsAnswer, Tells, TellsFront};
 ghost use Rattle.eos_explaining.specs.declared.folder.Unexplained.TheVariants.{CannotWrite};
 
+use crate::again::Pieces;
 use crate::answer::{Answer, Asked, explain};
+use crate::refused::refusal_of;
 use eos_base::Workers;
-use eos_board::Gate;
-use eos_disk::{Disk, FolderFault, HostDisk, Reading, Watch, read_folder};
+use eos_disk::{Disk, FolderFault, HostDisk, Shape, Watch, read_shape};
 use eos_ending::{
     Ending, Meter, Progress, STANDARD, Subject, end, end_fewer, end_unread, say_notes,
 };
+use eos_source::FolderSource;
 use eos_text::{WriteFault, finish};
 use eos_words::Explain;
 use std::alloc::Global;
 use std::io;
 use std::io::Write;
-use std::sync::Wait;
 use std::thread::Threads;
 
-/// A folder of a disk, and who is told how far its reading is; the workers pass it as a gate.
+/// A folder of a disk, and who is told how far its reading is.
 #[derive(Clone, Copy)]
 pub struct Folder<'a, D, T> {
     pub disk: &'a D,
@@ -63,28 +64,53 @@ pub enum Unexplained {
     CannotWrite,
 }
 
-/// Reads a folder whole, and answers.
-#[tactic(auto, using(crate::proofs::FirstRefused::first_of_whole, crate::proofs::FirstRefused::whole_memory))]
-fn answer_folder<D: Disk, T: Gate + Watch, R: Threads + Wait + Sync>(
+/// Reads the segments of a folder of this shape, and answers.
+fn answer_shape<D: Disk, T: Watch, R: Threads + Sync>(
     alloc: Global,
     threads: &R,
     folder: Folder<'_, D, T>,
+    shape: &Shape,
     which: &Which,
 ) -> Result<Answer, FolderFault>
-    ensures answer { IfOk result (λ answer. (e : EvidenceParts) × IsReadWhole (D.holds folder.entry.disk.now) folder.entry.path.now e × IsAnswer folder.entry.path.now e (number_of which.now.fault) answer) }
-    ensures first { IfErr result (IsFirstOfWhole (D.holds folder.entry.disk.now) folder.entry.path.now) }
+    ensures answer { IfOk result (λ answer. HoldsAsRead (known_at (D.holds folder.entry.disk.now) folder.entry.path.now (segments_of shape.now.evidence.partitions) shape.now.forms.items) shape.now.evidence
+        (λ e. IsAnswer folder.entry.path.now e (number_of which.now.fault) answer)) }
+    ensures opened { IfOk result (λ answer. AreOpened (outcomes_of (D.holds folder.entry.disk.now) folder.entry.path.now shape.now.evidence shape.now.forms.items) (pieces_of shape.now.evidence)) }
+    ensures refused { IfErr result (IsOfPieces (outcomes_of (D.holds folder.entry.disk.now) folder.entry.path.now shape.now.evidence shape.now.forms.items) (pieces_of shape.now.evidence) true) }
 {
-    let reading = Reading {
-        workers: which.workers,
+    let source = FolderSource {
+        disk: folder.disk,
+        folder: folder.path,
+        shape,
         watch: folder.watch,
     };
-    let evidence = read_folder(alloc, threads, folder.disk, folder.path, reading)?;
+    let pieces = Pieces {
+        source: &source,
+        shape: &shape.evidence,
+    };
     let asked = Asked {
         folder: folder.path,
         workers: which.workers,
         number: which.fault.unwrap_or(1),
     };
-    let answer = explain(alloc, threads, &evidence, &asked, folder.watch)?;
+    match explain(alloc, threads, pieces, &asked) {
+        Ok(answer) => Ok(answer),
+        Err(why) => Err(refusal_of(alloc, &source, why)),
+    }
+}
+
+/// Reads a folder, and answers. No more of it is held than the verdict wants, and the partitions that the story names.
+fn answer_folder<D: Disk, T: Watch, R: Threads + Sync>(
+    alloc: Global,
+    threads: &R,
+    folder: Folder<'_, D, T>,
+    which: &Which,
+) -> Result<Answer, FolderFault>
+    ensures answer { IfOk result (λ answer. HoldsOf (D.holds folder.entry.disk.now) folder.entry.path.now (λ e. IsAnswer folder.entry.path.now e (number_of which.now.fault) answer)) }
+    ensures first { IfErr result (IsFirstAgain (D.holds folder.entry.disk.now) folder.entry.path.now) }
+{
+    let shape = read_shape(alloc, folder.disk, folder.path, folder.watch)?;
+    let answer = answer_shape(alloc, threads, folder, &shape, which)?;
+    shape.listed?;
     Ok(answer)
 }
 
@@ -115,27 +141,26 @@ fn told<W: Write>(
 }
 
 /// Writes the story of a fault of the evidence in a folder of a disk, of this number in the list of all; or where it has none and no
-/// number is said, the line of a yes. The evidence is read whole, by at most so many threads.
+/// number is said, the line of a yes. The evidence is read by at most so many threads, and then the partitions that the story names once
+/// more, whole.
 ///
 /// # Errors
 /// At `CannotWrite` a front of the text was written. Before all is read and judged nothing is: `Refused` says which file or folder is no
-/// evidence or can't be read, or that memory ran out. It is the first refusal: that of the manifest; of the first fold that is listed, which
-/// has no records; of the first segment that isn't read; or, where each was read, of the listing.
-pub fn explain_folder_to<D: Disk, T: Gate + Watch, R: Threads + Wait + Sync, W: Write>(
+/// evidence or can't be read, or that memory ran out. It is the first refusal: that of the manifest, or of the first segment that is listed
+/// and isn't read, or, where each was opened, of the listing, or of a segment that is read again, as where it is a fold.
+pub fn explain_folder_to<D: Disk, T: Watch, R: Threads + Sync, W: Write>(
     alloc: Global,
     threads: &R,
     folder: Folder<'_, D, T>,
     which: &Which,
     writer: &mut W,
 ) -> Result<Explained, Unexplained>
-    ensures some { IfOk result (λ told. (e : EvidenceParts) × IsReadWhole (D.holds folder.entry.disk.now) folder.entry.path.now e
-        × IsExplained folder.entry.path.now e which.now.fault (W.contents writer.old) (W.contents writer.new) told) }
+    ensures some { IfOk result (λ told. HoldsOf (D.holds folder.entry.disk.now) folder.entry.path.now (λ e. IsExplained folder.entry.path.now e which.now.fault (W.contents writer.old) (W.contents writer.new) told)) }
     ensures known { (e : EvidenceParts) → AreKnown (D.holds folder.entry.disk.now) folder.entry.path.now → StandsAt (D.holds folder.entry.disk.now) folder.entry.path.now e
         → IfOk result (IsExplained folder.entry.path.now e which.now.fault (W.contents writer.old) (W.contents writer.new)) }
     ensures unread { IfErr result (λ why. why ≢ CannotWrite → Keeps (W.contents writer.old) (W.contents writer.new)) }
     ensures first { IfErr result (IsFirst (D.holds folder.entry.disk.now) folder.entry.path.now) }
-    ensures front { result ≡ Err CannotWrite → (e : EvidenceParts) × IsReadWhole (D.holds folder.entry.disk.now) folder.entry.path.now e
-        × IsFrontOfExplained folder.entry.path.now e which.now.fault (W.contents writer.old) (W.contents writer.new) }
+    ensures front { result ≡ Err CannotWrite → HoldsOf (D.holds folder.entry.disk.now) folder.entry.path.now (λ e. IsFrontOfExplained folder.entry.path.now e which.now.fault (W.contents writer.old) (W.contents writer.new)) }
     ensures known_front { (e : EvidenceParts) → AreKnown (D.holds folder.entry.disk.now) folder.entry.path.now → StandsAt (D.holds folder.entry.disk.now) folder.entry.path.now e
         → result ≡ Err CannotWrite → IsFrontOfExplained folder.entry.path.now e which.now.fault (W.contents writer.old) (W.contents writer.new) }
 {
@@ -152,7 +177,7 @@ pub fn explain_folder_to<D: Disk, T: Gate + Watch, R: Threads + Wait + Sync, W: 
 #[inline(never)]
 pub fn explain_folder(
     rt: &HostRuntime,
-    threads: &(impl Threads + Wait + Sync),
+    threads: &(impl Threads + Sync),
     words: &Explain<'_>,
 ) -> u8 {
     let meter = Meter::start(rt, false, false);

@@ -2,6 +2,7 @@
 //! the fault means, what to do next, how many faults of each kind there are, and the notes.
 #![tactic(auto)]
 
+mod again;
 mod answer;
 mod batches;
 mod command;
@@ -10,15 +11,16 @@ mod kinds;
 mod lines;
 mod paths;
 mod records;
+mod refused;
 mod rows;
 mod seen;
 mod sentences;
 mod stories;
 mod story;
 mod told;
+mod whole_log;
 mod whole_story;
 
-pub use answer::{Answer, Asked, explain};
 pub use folder::{Explained, Folder, Unexplained, Which, explain_folder, explain_folder_to};
-pub use stories::{First, first_stories, first_stories_of};
+pub use stories::{First, first_stories};
 pub use whole_story::{Story, story_text};

@@ -1,87 +1,150 @@
-//! The logs as a story sees them: what is kept of them, or all.
+//! The logs as a story sees them: what is kept of them; but where it looks for claims, all of those of whose topics no application is.
 
-ghost use Rattle.std.specs.Prelude.{IfOk, IfSome};
-ghost use Rattle.eos_check.specs.WholeLogs.{AreWholeLogs};
-ghost use Rattle.eos_source_check.specs.Judged.{IsJudgedFor};
-ghost use Rattle.eos_explaining.specs.steps.Found.{AreItsSeen};
+ghost use Rattle.std.specs.Prelude.{◌≡◌, List, length, IfOk, IfErr, OnOk};
+ghost use Rattle.eos_evidence.specs.Evidence.{EvidenceParts, IsEvidence, segments_of};
+ghost use Rattle.eos_commits.specs.EvidenceLogs.{AreLogsOf};
+ghost use Rattle.eos_fold.specs.Parts.{PartLog};
+ghost use Rattle.eos_reading.specs.Wanted.{kept_log, wanted_logs};
+ghost use Rattle.eos_source.specs.Said.{known_by};
+ghost use Rattle.eos_source_check.specs.Refusals.{IsUnread};
+ghost use Rattle.eos_explaining.specs.Explaining.{AreSeen};
+ghost use Rattle.eos_explaining.specs.Folders.{AreRead, HasThem};
+ghost use Rattle.eos_explaining.specs.Seen.{seen_log, seen_logs};
+ghost use Rattle.eos_explaining.specs.steps.Again.{AreKept};
+ghost use Rattle.eos_explaining.specs.steps.Found.{IsItsLog};
 
-use bytes::Bytes;
-use eos_base::{Sorted, Workers};
-use eos_board::Gate;
-use eos_check::logs_of;
-use eos_evidence::{App, Evidence};
+use crate::again::{Pieces, read_name};
+use crate::whole_log::whole_log;
+use eos_base::PartitionName;
+use eos_check::Verdict;
+use eos_evidence::Partition;
 use eos_kept::{Logs, Part};
-use eos_source_check::Judged;
+use eos_manifest::is_judged;
+use eos_sought::partition_named;
+use eos_source::Source;
+use eos_source_check::{Judged, Unlisted};
+use eos_verdict::{Fault, LineageFault};
 use std::alloc::{AllocError, Global};
-use std::sync::Wait;
-use std::thread::Threads;
 
-fn push_topics<'a>(all: &mut Vec<&'a [u8]>, topics: &'a [Bytes]) -> Result<(), AllocError> {
-    for topic in topics {
-        all.push(topic.as_slice())?;
+/// Whether a story of one of these faults looks for claims: a claim in a topic of which no application is is no output, and nothing is kept
+/// of it, but a story that looks for a missing output shows it.
+fn is_of_claims(told: &[Verdict]) -> bool {
+    match told.first() {
+        None => false,
+        Some(Verdict::Yes(_)) => false,
+        Some(Verdict::No(fault)) => is_of_output(fault),
     }
-    Ok(())
 }
 
-/// The topics that some application reads or writes.
-fn named_by<'a>(alloc: Global, apps: &'a [App]) -> Result<Sorted<&'a [u8]>, AllocError> {
-    let mut all = Vec::new(alloc);
-    for app in apps {
-        push_topics(&mut all, app.sources.as_slice())?;
-        push_topics(&mut all, app.outputs.as_slice())?;
+fn is_of_output(fault: &Fault) -> bool {
+    match fault {
+        Fault::Lineage(fault) => matches!(fault, LineageFault::Output { .. }),
+        _ => false,
     }
-    Ok(Sorted::of(all))
 }
 
-fn is_internal(topic: &[u8]) -> bool {
-    topic == b"__consumer_offsets".as_slice() || topic == b"__transaction_state".as_slice()
+/// The name of a log.
+fn name_of(part: &Part) -> Result<PartitionName, AllocError>
+    ensures { IfOk result (λ name. name ≡ record { topic = part.now.topic; partition = part.now.number }) }
+{
+    Ok(PartitionName {
+        topic: part.topic().clone()?,
+        partition: part.partition(),
+    })
 }
 
-/// Whether each partition is of Kafka's own logs, or of a topic that an application names.
-fn are_named(alloc: Global, evidence: &Evidence) -> Result<bool, AllocError> {
-    let named = named_by(alloc, evidence.spec().apps().as_slice())?;
-    for partition in evidence.partitions() {
-        let topic = partition.end.topic.as_slice();
-        if !is_internal(topic) && !named.holds(&topic) {
-            return Ok(false);
+/// A log of whose topic no application is, folded whole of its partition, which is read again.
+fn whole_of<S: Source>(
+    alloc: Global,
+    pieces: &Pieces<'_, S>,
+    read: &mut Vec<Partition>,
+    part: Part,
+) -> Result<Part, Unlisted<S::Fault>>
+    requires evidence { IsEvidence pieces.now.shape.now }
+    requires read { AreRead (known_by (S.said pieces.now.source.now) (S.is_log pieces.now.source.now)) pieces.now.shape.now.partitions read.old.items }
+    ensures read { OnOk result (AreRead (known_by (S.said pieces.now.source.now) (S.is_log pieces.now.source.now)) pieces.now.shape.now.partitions read.new.items) }
+    ensures kept { OnOk result (AreKept read.old.items read.new.items) }
+    ensures seen { IfOk result (λ seen. (e : EvidenceParts) (log : PartLog) → IsEvidence e → e.spec ≡ pieces.now.shape.now.spec → HasThem e read.new.items → IsItsLog e part log → seen ≡ log) }
+    ensures unread { IfErr result (IsUnread (S.outcomes pieces.now.source.now) (length (segments_of pieces.now.shape.now.partitions))) }
+{
+    let name = name_of(&part)?;
+    read_name(alloc, pieces, read, &name)?;
+    match partition_named(read.as_slice(), &name) {
+        None => Ok(part),
+        Some(partition) => {
+            let whole = whole_log(alloc, partition)?;
+            Ok(whole)
         }
     }
-    Ok(true)
 }
 
-/// The logs over all bytes, where there is a topic that no application names: a claim there is no output, and nothing is kept of it,
-/// but a story that looks for a missing output shows it. The workers pass the gate.
-///
-/// # Errors
-/// Only want of memory.
-pub(crate) fn whole_logs<G: Gate>(
+fn seen_of<S: Source>(
     alloc: Global,
-    rt: &(impl Threads + Wait + Sync),
-    evidence: &Evidence,
-    workers: Workers,
-    gate: &G,
-) -> Result<Option<Logs>, AllocError>
-    ensures { IfOk result (λ logs. IfSome logs (AreWholeLogs evidence.now.partitions)) }
+    pieces: &Pieces<'_, S>,
+    read: &mut Vec<Partition>,
+    part: Part,
+) -> Result<Part, Unlisted<S::Fault>>
+    requires { AreRead (known_by (S.said pieces.now.source.now) (S.is_log pieces.now.source.now)) pieces.now.shape.now.partitions read.old.items }
+    ensures read { OnOk result (AreRead (known_by (S.said pieces.now.source.now) (S.is_log pieces.now.source.now)) pieces.now.shape.now.partitions read.new.items) }
+    ensures kept { OnOk result (AreKept read.old.items read.new.items) }
+    ensures seen { IfOk result (λ seen. (e : EvidenceParts) (log : PartLog) → IsEvidence e → e.spec ≡ pieces.now.shape.now.spec → HasThem e read.new.items → IsItsLog e part log → part ≡ kept_log e.spec.apps log → seen ≡ seen_log e.spec.apps log) }
+    ensures unread { IfErr result (IsUnread (S.outcomes pieces.now.source.now) (length (segments_of pieces.now.shape.now.partitions))) }
 {
-    if are_named(alloc, evidence)? {
-        return Ok(None);
+    let apps = pieces.shape.spec().apps().as_slice();
+    if is_judged(apps, part.topic().as_slice()) {
+        return Ok(part);
     }
-    let logs = logs_of(alloc, rt, evidence, workers, gate)?;
-    Ok(Some(logs))
+    let whole = whole_of(alloc, pieces, read, part)?;
+    Ok(whole)
 }
 
-/// The logs over all bytes if they are there, and else what is kept of those of the evidence that was judged.
-pub(crate) fn seen_of<'a>(
-    _evidence: &Evidence,
-    judged: &'a Judged,
-    whole: Option<&'a Logs>,
-) -> &'a [Part]
-    requires judged { IsJudgedFor judged.now _evidence.now }
-    requires whole { IfSome whole (λ logs. AreWholeLogs _evidence.now.partitions logs.now) }
-    ensures { AreItsSeen _evidence.now result.now }
+/// These logs, of which those are whole of whose topics no application is.
+fn all_seen<S: Source>(
+    alloc: Global,
+    pieces: &Pieces<'_, S>,
+    read: &mut Vec<Partition>,
+    parts: Vec<Part>,
+) -> Result<Vec<Part>, Unlisted<S::Fault>>
+    requires { AreRead (known_by (S.said pieces.now.source.now) (S.is_log pieces.now.source.now)) pieces.now.shape.now.partitions read.old.items }
+    ensures read { OnOk result (AreRead (known_by (S.said pieces.now.source.now) (S.is_log pieces.now.source.now)) pieces.now.shape.now.partitions read.new.items) }
+    ensures kept { OnOk result (AreKept read.old.items read.new.items) }
+    ensures seen { IfOk result (λ seen. (e : EvidenceParts) (logs : List PartLog) → IsEvidence e → e.spec ≡ pieces.now.shape.now.spec → HasThem e read.new.items → AreLogsOf e.partitions logs → parts.items ≡ wanted_logs e.spec.apps logs → seen.items ≡ seen_logs e.spec.apps logs) }
+    ensures unread { IfErr result (IsUnread (S.outcomes pieces.now.source.now) (length (segments_of pieces.now.shape.now.partitions))) }
 {
-    match whole {
-        None => judged.logs.parts.as_slice(),
-        Some(logs) => logs.parts.as_slice(),
+    let mut seen = Vec::new(alloc);
+    for part in parts {
+        let one = seen_of(alloc, pieces, read, part)?;
+        seen.push(one)?;
     }
+    Ok(seen)
+}
+
+/// What is kept of the logs of what was judged.
+pub(crate) fn parts_of(judged: Judged) -> Vec<Part>
+    ensures { result.items ≡ judged.logs.parts.items }
+{
+    let Judged { logs, .. } = judged;
+    let Logs { parts, .. } = logs;
+    parts
+}
+
+/// These logs, as stories of these faults see them.
+pub(crate) fn seen_logs<S: Source>(
+    alloc: Global,
+    pieces: &Pieces<'_, S>,
+    read: &mut Vec<Partition>,
+    parts: Vec<Part>,
+    told: &[Verdict],
+) -> Result<Vec<Part>, Unlisted<S::Fault>>
+    requires { AreRead (known_by (S.said pieces.now.source.now) (S.is_log pieces.now.source.now)) pieces.now.shape.now.partitions read.old.items }
+    ensures read { OnOk result (AreRead (known_by (S.said pieces.now.source.now) (S.is_log pieces.now.source.now)) pieces.now.shape.now.partitions read.new.items) }
+    ensures kept { OnOk result (AreKept read.old.items read.new.items) }
+    ensures seen { IfOk result (λ seen. (e : EvidenceParts) (logs : List PartLog) → IsEvidence e → e.spec ≡ pieces.now.shape.now.spec → HasThem e read.new.items → AreLogsOf e.partitions logs → parts.items ≡ wanted_logs e.spec.apps logs → AreSeen e logs seen.items) }
+    ensures unread { IfErr result (IsUnread (S.outcomes pieces.now.source.now) (length (segments_of pieces.now.shape.now.partitions))) }
+{
+    if !is_of_claims(told) {
+        return Ok(parts);
+    }
+    let seen = all_seen(alloc, pieces, read, parts)?;
+    Ok(seen)
 }

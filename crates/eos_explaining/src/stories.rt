@@ -1,163 +1,184 @@
-//! The stories of the first faults of an evidence, which is read once for all of them.
+//! The stories of the first faults of an evidence, which is read once for all of them, and then the partitions that they name.
 
-ghost use Rattle.std.specs.Prelude.{◌≡◌, map, List, IfOk, IfErr, string_bytes};
-ghost use Rattle.eos_verdict.specs.Counts.{counts_line};
+ghost use Rattle.std.specs.Prelude.{◌≡◌, ℕ, map, List, true, IfOk, IfErr, OnOk, string_bytes, alloc_error};
 ghost use Rattle.eos_verdict.specs.declared.verdict.Fault.{Fault as AFault};
-ghost use Rattle.eos_verdict.specs.declared.verdict.Verdict.{Verdict as Named};
 ghost use Rattle.eos_verdict.specs.declared.verdict.Verdict.TheVariants.{No};
-ghost use Rattle.eos_disk.specs.Reading.{IsReadWhole};
 ghost use Rattle.eos_disk.specs.Shapes.{AreKnown};
-ghost use Rattle.eos_evidence.specs.Evidence.{EvidenceParts};
-ghost use Rattle.eos_notes.specs.Notes.{AreAllNotes};
-ghost use Rattle.eos_source.specs.Saying.{StandsAt};
-ghost use Rattle.eos_source_check.specs.Judged.{IsJudgedFor};
-ghost use Rattle.eos_explaining.specs.Refused.{IsFirstOfWhole};
-ghost use Rattle.eos_explaining.specs.FirstStories.{AreStoriesOf, AreFirstStories};
-ghost use Rattle.eos_explaining.specs.steps.Found.{AreFindings, AreItsSeen};
+ghost use Rattle.eos_evidence.specs.Evidence.{EvidenceParts, segments_of};
+ghost use Rattle.eos_source.specs.FirstRefusals.{IsOfPieces, outcomes_of, pieces_of};
+ghost use Rattle.eos_source.specs.Refusals.{AreOpened};
+ghost use Rattle.eos_source.specs.Said.{known_by};
+ghost use Rattle.eos_source.specs.Saying.{known_at, StandsAt};
+ghost use Rattle.eos_source_check.specs.Refusals.{IsUnread, IsUntold};
+ghost use Rattle.eos_explaining.specs.FirstStories.{AreFirstStories};
+ghost use Rattle.eos_explaining.specs.Folders.{AreRead, HoldsAsRead, HoldsOf};
+ghost use Rattle.eos_explaining.specs.Refused.{IsFirstAgain};
+ghost use Rattle.eos_explaining.specs.steps.Again.{AreKept, AreToldBy};
+ghost use Rattle.eos_explaining.specs.steps.Found.{AreFoundBy, HoldsBy};
+ghost use Rattle.eos_explaining.specs.steps.Untold.{IsAfter};
 
-use crate::answer::{Findings, Judgement, found_in};
+use crate::again::Pieces;
+use crate::answer::{Findings, found_in};
 use crate::folder::Folder;
 use crate::kinds::Pick;
-use crate::seen::{seen_of, whole_logs};
+use crate::refused::refusal_of;
+use crate::seen::{parts_of, seen_logs};
 use crate::story::{About, story_of};
 use eos_base::Workers;
-use eos_board::Gate;
 use eos_check::Verdict;
-use eos_disk::{Disk, FolderFault, Reading, Watch, read_folder};
-use eos_evidence::Evidence;
-use eos_source_check::judge_evidence;
-use eos_story::Scene;
-use std::alloc::{AllocError, Global};
-use std::sync::Wait;
+use eos_disk::{Disk, FolderFault, Shape, Watch, read_shape};
+use eos_evidence::Partition;
+use eos_source::{FolderSource, Source};
+use eos_source_check::{Judged, Unlisted, judge_source};
+use std::alloc::Global;
 use std::thread::Threads;
 
-/// Of which faults of a folder the stories are told.
+/// How many stories there are, and by how many threads the folder is read for them.
 #[derive(Clone, Copy)]
-pub struct First<'a> {
-    /// The folder of the evidence, as it was named.
-    pub folder: &'a str,
+pub struct First {
     pub workers: Workers,
-    /// Of so many at most.
+    /// So many at most.
     pub most: usize,
 }
 
 /// The stories of the faults that these verdicts name.
-#[tactic(auto, using(crate::proofs::StoriesMore::story_more))]
-fn told_each(
-    scene: &Scene<'_>,
-    about: About<'_>,
+fn told_each<S: Source>(
+    alloc: Global,
+    pieces: &Pieces<'_, S>,
+    read: &mut Vec<Partition>,
+    about: &About<'_>,
     told: &[Verdict],
-) -> Result<Vec<String>, AllocError>
-    requires notes { AreAllNotes scene.now.evidence.now about.notes.now }
+) -> Result<Vec<String>, Unlisted<S::Fault>>
+    requires read { AreRead (known_by (S.said pieces.now.source.now) (S.is_log pieces.now.source.now)) pieces.now.shape.now.partitions read.old.items }
     requires faults { (faults : List AFault) × (told.now ≡ map No faults) }
-    ensures { IfOk result (λ texts. (all : List Named) → about.entry.counts.now ≡ counts_line all
-        → AreStoriesOf about.entry.folder.now scene.now.evidence.now scene.now.logs.now all told.now (map string_bytes texts.items)) }
+    ensures read { OnOk result (AreRead (known_by (S.said pieces.now.source.now) (S.is_log pieces.now.source.now)) pieces.now.shape.now.partitions read.new.items) }
+    ensures kept { OnOk result (AreKept read.old.items read.new.items) }
+    ensures told { IfOk result (λ texts. AreToldBy pieces.now.shape.now read.new.items about.now told.now (map string_bytes texts.items)) }
+    ensures unread { IfErr result (IsUnread (S.outcomes pieces.now.source.now) (pieces_of pieces.now.shape.now)) }
 {
-    let mut texts = Vec::new(scene.alloc);
+    let mut texts = Vec::new(alloc);
     for i in 0..told.len() {
-        let text = story_of(scene, about, &told[i])?;
+        let text = story_of(alloc, pieces, read, about, &told[i])?;
         texts.push(text)?;
     }
     Ok(texts)
 }
 
 /// The stories of the faults that are held of those that were found.
-fn of_findings(
-    scene: &Scene<'_>,
+fn of_findings<S: Source>(
+    alloc: Global,
+    pieces: &Pieces<'_, S>,
+    judged: Judged,
     folder: &str,
     found: &Findings,
-    most: u64,
-) -> Result<Vec<String>, AllocError>
-    requires seen { AreItsSeen scene.now.evidence.now scene.now.logs.now }
-    requires found { AreFindings scene.now.evidence.now 0 most found.now }
-    ensures { IfOk result (λ texts. AreFirstStories folder.now scene.now.evidence.now most (map string_bytes texts.items)) }
+) -> Result<Vec<String>, Unlisted<S::Fault>>
+    requires { (most : ℕ) × AreFoundBy (known_by (S.said pieces.now.source.now) (S.is_log pieces.now.source.now)) pieces.now.shape.now judged 0 most found.now }
+    ensures told { IfOk result (λ texts. (most : ℕ) → AreFoundBy (known_by (S.said pieces.now.source.now) (S.is_log pieces.now.source.now)) pieces.now.shape.now judged 0 most found.now
+        → HoldsBy (known_by (S.said pieces.now.source.now) (S.is_log pieces.now.source.now)) pieces.now.shape.now judged (λ e. AreFirstStories folder.now e most (map string_bytes texts.items))) }
+    ensures unread { IfErr result (IsUnread (S.outcomes pieces.now.source.now) (pieces_of pieces.now.shape.now)) }
 {
+    let mut read = Vec::new(alloc);
+    let told = found.told.as_slice();
+    let parts = seen_logs(alloc, pieces, &mut read, parts_of(judged), told)?;
     let about = About {
         folder,
         counts: found.line.as_str(),
         notes: found.notes.as_slice(),
+        logs: parts.as_slice(),
     };
-    let texts = told_each(scene, about, found.told.as_slice())?;
+    let texts = told_each(alloc, pieces, &mut read, &about, told)?;
     Ok(texts)
 }
 
-/// The stories of the first faults of an evidence that was judged.
-fn stories_of<G: Gate>(
+/// The stories of the first faults of what was judged.
+fn of_judged<S: Source>(
     alloc: Global,
-    rt: &(impl Threads + Wait + Sync),
-    judgement: Judgement<'_>,
-    first: &First<'_>,
-    gate: &G,
-) -> Result<Vec<String>, AllocError>
-    requires { IsJudgedFor judgement.judged.now judgement.evidence.now }
-    ensures { IfOk result (λ texts. AreFirstStories first.now.folder.now judgement.entry.evidence.now first.now.most (map string_bytes texts.items)) }
+    pieces: &Pieces<'_, S>,
+    judged: Judged,
+    folder: &str,
+    most: u64,
+) -> Result<Vec<String>, Unlisted<S::Fault>>
+    ensures told { IfOk result (λ texts. HoldsBy (known_by (S.said pieces.now.source.now) (S.is_log pieces.now.source.now)) pieces.now.shape.now judged (λ e. AreFirstStories folder.now e most (map string_bytes texts.items))) }
+    ensures refused { IfErr result (IsAfter (known_by (S.said pieces.now.source.now) (S.is_log pieces.now.source.now)) (S.outcomes pieces.now.source.now) pieces.now.shape.now.partitions judged) }
 {
-    let Judgement { evidence, judged } = judgement;
-    let pick = Pick {
-        from: 0,
-        most: first.most as u64,
-    };
-    let found = found_in(alloc, evidence, judged, pick)?;
-    let whole = whole_logs(alloc, rt, evidence, first.workers, gate)?;
-    let scene = Scene {
-        alloc,
-        evidence,
-        logs: seen_of(evidence, judged, whole.as_ref()),
-    };
-    of_findings(&scene, first.folder, &found, pick.most)
+    let pick = Pick { from: 0, most };
+    let found = found_in(alloc, pieces, &judged, pick)?;
+    let texts = of_findings(alloc, pieces, judged, folder, &found)?;
+    Ok(texts)
 }
 
-/// The stories of the first faults of the evidence, in the order of the list of all; so many, or all where there are fewer. The workers
-/// pass the gate.
-///
-/// # Errors
-/// Only want of memory.
-pub fn first_stories_of<G: Gate>(
+/// Reads the pieces, each once, and tells.
+#[tactic(auto, using(crate::proofs::Answered::of_judged, crate::proofs::Untold::unjudged))]
+fn of_source<S: Source, R: Threads + Sync>(
     alloc: Global,
-    rt: &(impl Threads + Wait + Sync),
-    evidence: &Evidence,
-    first: &First<'_>,
-    gate: &G,
-) -> Result<Vec<String>, AllocError>
-    ensures { IfOk result (λ texts. AreFirstStories first.now.folder.now evidence.now first.now.most (map string_bytes texts.items)) }
+    threads: &R,
+    pieces: Pieces<'_, S>,
+    folder: &str,
+    first: &First,
+) -> Result<Vec<String>, Unlisted<S::Fault>>
+    ensures told { IfOk result (λ texts. HoldsAsRead (known_by (S.said pieces.entry.source.now) (S.is_log pieces.entry.source.now)) pieces.entry.shape.now (λ e. AreFirstStories folder.now e first.now.most (map string_bytes texts.items))) }
+    ensures opened { IfOk result (λ texts. AreOpened (S.outcomes pieces.entry.source.now) (pieces_of pieces.entry.shape.now)) }
+    ensures refused { IfErr result (IsUntold (S.outcomes pieces.entry.source.now) (S.Fault.from_gives alloc_error) (pieces_of pieces.entry.shape.now) true) }
 {
-    let judged = judge_evidence(alloc, rt, evidence, first.workers)?;
-    let judgement = Judgement {
-        evidence,
-        judged: &judged,
-    };
-    stories_of(alloc, rt, judgement, first, gate)
+    match judge_source(alloc, threads, pieces.source, pieces.shape, first.workers) {
+        Ok(judged) => {
+            let texts = of_judged(alloc, &pieces, judged, folder, first.most as u64)?;
+            Ok(texts)
+        }
+        Err(fault) => Err(Unlisted::Refused(fault)),
+    }
 }
 
-/// The stories of the first faults of the evidence in a folder of a disk. It is read whole, once, by at most so many threads; a yes has
-/// none.
-///
-/// # Errors
-/// Those of `explain_folder_to` before it writes.
-#[tactic(auto, using(crate::proofs::StoriesMore::known_stories, crate::proofs::FirstRefused::first_of_whole, crate::proofs::FirstRefused::whole_memory))]
-pub fn first_stories<D: Disk, T: Gate + Watch, R: Threads + Wait + Sync>(
+/// Reads the segments of a folder of this shape, and tells.
+fn of_shape<D: Disk, T: Watch, R: Threads + Sync>(
     alloc: Global,
     threads: &R,
     folder: Folder<'_, D, T>,
-    workers: Workers,
-    most: usize,
+    shape: &Shape,
+    first: &First,
 ) -> Result<Vec<String>, FolderFault>
-    ensures some { IfOk result (λ texts. (e : EvidenceParts) × IsReadWhole (D.holds folder.entry.disk.now) folder.entry.path.now e
-        × AreFirstStories folder.entry.path.now e most (map string_bytes texts.items)) }
-    ensures known { (e : EvidenceParts) → AreKnown (D.holds folder.entry.disk.now) folder.entry.path.now → StandsAt (D.holds folder.entry.disk.now) folder.entry.path.now e
-        → IfOk result (λ texts. AreFirstStories folder.entry.path.now e most (map string_bytes texts.items)) }
-    ensures first { IfErr result (IsFirstOfWhole (D.holds folder.entry.disk.now) folder.entry.path.now) }
+    ensures told { IfOk result (λ texts. HoldsAsRead (known_at (D.holds folder.entry.disk.now) folder.entry.path.now (segments_of shape.now.evidence.partitions) shape.now.forms.items) shape.now.evidence
+        (λ e. AreFirstStories folder.entry.path.now e first.now.most (map string_bytes texts.items))) }
+    ensures opened { IfOk result (λ texts. AreOpened (outcomes_of (D.holds folder.entry.disk.now) folder.entry.path.now shape.now.evidence shape.now.forms.items) (pieces_of shape.now.evidence)) }
+    ensures refused { IfErr result (IsOfPieces (outcomes_of (D.holds folder.entry.disk.now) folder.entry.path.now shape.now.evidence shape.now.forms.items) (pieces_of shape.now.evidence) true) }
 {
-    let reading = Reading {
-        workers,
+    let source = FolderSource {
+        disk: folder.disk,
+        folder: folder.path,
+        shape,
         watch: folder.watch,
     };
-    let evidence = read_folder(alloc, threads, folder.disk, folder.path, reading)?;
-    let first = First {
-        folder: folder.path,
-        workers,
-        most,
+    let pieces = Pieces {
+        source: &source,
+        shape: &shape.evidence,
     };
-    let texts = first_stories_of(alloc, threads, &evidence, &first, folder.watch)?;
+    match of_source(alloc, threads, pieces, folder.path, first) {
+        Ok(texts) => Ok(texts),
+        Err(why) => Err(refusal_of(alloc, &source, why)),
+    }
+}
+
+/// The stories of the first faults of the evidence in a folder of a disk, in the order of the list of all; so many, or all where there are
+/// fewer. A yes has none.
+///
+/// The folder is read once, and no more of it is held than the verdict wants; then the partitions that the stories name are read once more,
+/// whole: of a disk of which nothing is known they are those of an evidence that has these as they were read again.
+///
+/// # Errors
+/// Those of `explain_folder_to` before it writes.
+pub fn first_stories<D: Disk, T: Watch, R: Threads + Sync>(
+    alloc: Global,
+    threads: &R,
+    folder: Folder<'_, D, T>,
+    first: &First,
+) -> Result<Vec<String>, FolderFault>
+    ensures some { IfOk result (λ texts. HoldsOf (D.holds folder.entry.disk.now) folder.entry.path.now (λ e. AreFirstStories folder.entry.path.now e first.now.most (map string_bytes texts.items))) }
+    ensures known { (e : EvidenceParts) → AreKnown (D.holds folder.entry.disk.now) folder.entry.path.now → StandsAt (D.holds folder.entry.disk.now) folder.entry.path.now e
+        → IfOk result (λ texts. AreFirstStories folder.entry.path.now e first.now.most (map string_bytes texts.items)) }
+    ensures first { IfErr result (IsFirstAgain (D.holds folder.entry.disk.now) folder.entry.path.now) }
+{
+    let shape = read_shape(alloc, folder.disk, folder.path, folder.watch)?;
+    let texts = of_shape(alloc, threads, folder, &shape, first)?;
+    shape.listed?;
     Ok(texts)
 }

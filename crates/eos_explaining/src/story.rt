@@ -1,19 +1,29 @@
-//! The story of one of all faults.
+//! The story of one of all faults, told over the partitions that it names. These are read again: its rows are found over those that were
+//! read, and again once a further one was that they name, until there is none.
 
-ghost use Rattle.std.specs.Prelude.{◌≡◌, List, IfOk, string_bytes};
+ghost use Rattle.std.specs.Prelude.{◌≡◌, length, IfOk, IfErr, IfSome, OnOk, string_bytes};
 ghost use Rattle.std.specs.Option.{option_copied};
+ghost use Rattle.eos_evidence.specs.Evidence.{segments_of};
 ghost use Rattle.eos_text.specs.Catalogue.{IsPageOf};
-ghost use Rattle.eos_verdict.specs.Counts.{counts_line};
 ghost use Rattle.eos_verdict.specs.declared.verdict.Fault.{Fault as AFault};
-ghost use Rattle.eos_verdict.specs.declared.verdict.Verdict.{Verdict as Named};
 ghost use Rattle.eos_verdict.specs.declared.verdict.Verdict.TheVariants.{No};
-ghost use Rattle.eos_notes.specs.Notes.{AreAllNotes};
-ghost use Rattle.eos_explaining.specs.Explaining.{IsStoryOf, code_of};
+ghost use Rattle.eos_source.specs.Said.{known_by};
+ghost use Rattle.eos_source_check.specs.Refusals.{IsUnread};
+ghost use Rattle.eos_story.specs.PlaceOfFault.{place_of as place_of_fault};
+ghost use Rattle.eos_explaining.specs.Explaining.{code_of};
+ghost use Rattle.eos_explaining.specs.Folders.{AreRead};
+ghost use Rattle.eos_explaining.specs.steps.Again.{AreNamedCovered, AreKept, SettledIf, IsToldBy};
 
+use crate::again::{Pieces, read_own, read_rows};
 use crate::{Story, story_text};
 use eos_check::{Fault, Verdict};
+use eos_claims::Place;
+use eos_evidence::Partition;
+use eos_kept::Part;
 use eos_notes::Note;
-use eos_story::{Scene, place_of, rows_of};
+use eos_source::Source;
+use eos_source_check::Unlisted;
+use eos_story::{Row, Scene, place_of, rows_of};
 use eos_text::{Page, page_of};
 use std::alloc::{AllocError, Global};
 
@@ -27,58 +37,142 @@ fn page_for(alloc: Global, fault: &Fault) -> Result<Option<&'static Page>, Alloc
     Ok(page_of(code.as_str()))
 }
 
-/// What a story tells beside its fault: the folder's path, the line of how many faults there are of each kind, and the notes.
+/// What a story tells beside its fault: the folder's path, the line of how many faults there are of each kind, and the notes; and the logs
+/// that it is told by.
 #[derive(Clone, Copy)]
 pub(crate) struct About<'a> {
-    pub folder: &'a str,
-    pub counts: &'a str,
-    pub notes: &'a [Note],
+    pub(crate) folder: &'a str,
+    pub(crate) counts: &'a str,
+    pub(crate) notes: &'a [Note],
+    pub(crate) logs: &'a [Part],
 }
 
-/// The story of the fault that this verdict names.
-fn told_of(
-    scene: &Scene<'_>,
-    about: About<'_>,
-    verdict: &Verdict,
-    fault: &Fault,
-) -> Result<String, AllocError>
-    requires notes { AreAllNotes scene.now.evidence.now about.notes.now }
-    requires names { verdict.now ≡ No fault.now }
-    ensures { IfOk result (λ text. (told : List Named) → about.entry.counts.now ≡ counts_line told
-        → IsStoryOf about.entry.folder.now scene.now.evidence.now scene.now.logs.now told verdict.now (string_bytes text)) }
+/// The fault that a verdict names, and its place, if it has one.
+#[derive(Clone, Copy)]
+struct Of<'a> {
+    verdict: &'a Verdict,
+    fault: &'a Fault,
+    place: &'a Option<Place>,
+}
+
+/// Reads the partitions that a fault and these rows name, but for those that were read. Whether one was read now.
+fn read_named<S: Source>(
+    alloc: Global,
+    pieces: &Pieces<'_, S>,
+    read: &mut Vec<Partition>,
+    place: Option<&Place>,
+    rows: &[Row],
+) -> Result<bool, Unlisted<S::Fault>>
+    requires { AreRead (known_by (S.said pieces.now.source.now) (S.is_log pieces.now.source.now)) pieces.now.shape.now.partitions read.old.items }
+    ensures read { OnOk result (AreRead (known_by (S.said pieces.now.source.now) (S.is_log pieces.now.source.now)) pieces.now.shape.now.partitions read.new.items) }
+    ensures kept { OnOk result (AreKept read.old.items read.new.items) }
+    ensures covered { IfOk result (SettledIf read.old.items read.new.items (λ all. AreNamedCovered pieces.now.shape.now.partitions all (option_copied place.entry) rows.now)) }
+    ensures unread { IfErr result (IsUnread (S.outcomes pieces.now.source.now) (length (segments_of pieces.now.shape.now.partitions))) }
 {
-    let rows = rows_of(scene, fault)?;
-    let place = place_of(scene.alloc, fault)?;
-    let page = page_for(scene.alloc, fault)?;
+    let first = read_own(alloc, pieces, read, place)?;
+    let more = read_rows(alloc, pieces, read, rows)?;
+    Ok(first || more)
+}
+
+/// The story by the partitions that were read, unless it names others; these are read then.
+fn told_once<S: Source>(
+    alloc: Global,
+    pieces: &Pieces<'_, S>,
+    read: &mut Vec<Partition>,
+    about: &About<'_>,
+    of: Of<'_>,
+) -> Result<Option<String>, Unlisted<S::Fault>>
+    requires read { AreRead (known_by (S.said pieces.now.source.now) (S.is_log pieces.now.source.now)) pieces.now.shape.now.partitions read.old.items }
+    requires names { of.verdict.now ≡ No of.fault.now }
+    requires place { of.place.now ≡ place_of_fault of.fault.now }
+    ensures read { OnOk result (AreRead (known_by (S.said pieces.now.source.now) (S.is_log pieces.now.source.now)) pieces.now.shape.now.partitions read.new.items) }
+    ensures kept { OnOk result (AreKept read.old.items read.new.items) }
+    ensures told { IfOk result (λ told. IfSome told (λ text. IsToldBy pieces.now.shape.now read.new.items about.now of.entry.verdict.now (string_bytes text))) }
+    ensures unread { IfErr result (IsUnread (S.outcomes pieces.now.source.now) (length (segments_of pieces.now.shape.now.partitions))) }
+{
+    let scene = Scene {
+        alloc,
+        apps: pieces.shape.spec().apps().as_slice(),
+        partitions: read.as_slice(),
+        logs: about.logs,
+    };
+    let rows = rows_of(&scene, of.fault)?;
+    if read_named(alloc, pieces, read, of.place.as_ref(), rows.as_slice())? {
+        return Ok(None);
+    }
+    let page = page_for(alloc, of.fault)?;
     let story = Story {
         folder: about.folder,
-        verdict,
-        place: place.as_ref(),
+        verdict: of.verdict,
+        place: of.place.as_ref(),
         rows: rows.as_slice(),
-        partitions: scene.evidence.partitions(),
         page,
         counts: about.counts,
         notes: about.notes,
     };
-    story_text(scene.alloc, &story)
+    let text = story_text(alloc, &story, read.as_slice())?;
+    Ok(Some(text))
 }
 
 /// The story of the fault that this verdict names.
+fn told_of<S: Source>(
+    alloc: Global,
+    pieces: &Pieces<'_, S>,
+    read: &mut Vec<Partition>,
+    about: &About<'_>,
+    of: Of<'_>,
+) -> Result<String, Unlisted<S::Fault>>
+    requires read { AreRead (known_by (S.said pieces.now.source.now) (S.is_log pieces.now.source.now)) pieces.now.shape.now.partitions read.old.items }
+    requires names { of.verdict.now ≡ No of.fault.now }
+    requires place { of.place.now ≡ place_of_fault of.fault.now }
+    ensures read { OnOk result (AreRead (known_by (S.said pieces.now.source.now) (S.is_log pieces.now.source.now)) pieces.now.shape.now.partitions read.new.items) }
+    ensures kept { OnOk result (AreKept read.old.items read.new.items) }
+    ensures told { IfOk result (λ text. IsToldBy pieces.now.shape.now read.new.items about.now of.entry.verdict.now (string_bytes text)) }
+    ensures unread { IfErr result (IsUnread (S.outcomes pieces.now.source.now) (length (segments_of pieces.now.shape.now.partitions))) }
+{
+    let rounds = pieces.shape.partitions().len();
+    read_own(alloc, pieces, read, of.place.as_ref())?;
+    for _ in 0..rounds {
+        if let Some(text) = told_once(alloc, pieces, read, about, of)? {
+            return Ok(text);
+        }
+    }
+    match told_once(alloc, pieces, read, about, of)? {
+        Some(text) => Ok(text),
+        // Each time a further partition was read, so that none is left by now.
+        None => Err(Unlisted::OutOfMemory),
+    }
+}
+
+/// The story of the fault that this verdict names. The partitions that it names are read again, but for those that were read.
 ///
 /// # Errors
-/// Only want of memory.
-pub(crate) fn story_of(
-    scene: &Scene<'_>,
-    about: About<'_>,
+/// A piece isn't there any more, is a fold, or can't be read; or want of memory.
+pub(crate) fn story_of<S: Source>(
+    alloc: Global,
+    pieces: &Pieces<'_, S>,
+    read: &mut Vec<Partition>,
+    about: &About<'_>,
     verdict: &Verdict,
-) -> Result<String, AllocError>
-    requires notes { AreAllNotes scene.now.evidence.now about.notes.now }
+) -> Result<String, Unlisted<S::Fault>>
+    requires read { AreRead (known_by (S.said pieces.now.source.now) (S.is_log pieces.now.source.now)) pieces.now.shape.now.partitions read.old.items }
     requires names { (fault : AFault) × (verdict.now ≡ No fault) }
-    ensures { IfOk result (λ text. (told : List Named) → about.entry.counts.now ≡ counts_line told
-        → IsStoryOf about.entry.folder.now scene.now.evidence.now scene.now.logs.now told verdict.now (string_bytes text)) }
+    ensures read { OnOk result (AreRead (known_by (S.said pieces.now.source.now) (S.is_log pieces.now.source.now)) pieces.now.shape.now.partitions read.new.items) }
+    ensures kept { OnOk result (AreKept read.old.items read.new.items) }
+    ensures told { IfOk result (λ text. IsToldBy pieces.now.shape.now read.new.items about.now verdict.now (string_bytes text)) }
+    ensures unread { IfErr result (IsUnread (S.outcomes pieces.now.source.now) (length (segments_of pieces.now.shape.now.partitions))) }
 {
     match verdict {
         Verdict::Yes(_) => unreachable!(),
-        Verdict::No(fault) => told_of(scene, about, verdict, fault),
+        Verdict::No(fault) => {
+            let place = place_of(alloc, fault)?;
+            let of = Of {
+                verdict,
+                fault,
+                place: &place,
+            };
+            let text = told_of(alloc, pieces, read, about, of)?;
+            Ok(text)
+        }
     }
 }

@@ -38,8 +38,6 @@ pub struct Story<'a> {
     pub place: Option<&'a Place>,
     /// The places that it is about.
     pub rows: &'a [Row],
-    /// The partitions whose logs these places are in.
-    pub partitions: &'a [Partition],
     /// The catalogue's page of its kind.
     pub page: Option<&'a Page>,
     /// The line of how many faults there are of each kind.
@@ -72,10 +70,15 @@ fn shown_rows(rows: &[Row]) -> &[Row]
     &rows[..MOST_ROWS.min(rows.len())]
 }
 
-fn push_rows(alloc: Global, out: &mut String, story: &Story<'_>) -> Result<(), AllocError>
-    ensures { OnOk result (Adds (string_bytes out.old) (string_bytes out.new) (rows_text (lines_of_story story.now))) }
+fn push_rows(
+    alloc: Global,
+    out: &mut String,
+    story: &Story<'_>,
+    partitions: &[Partition],
+) -> Result<(), AllocError>
+    ensures { OnOk result (Adds (string_bytes out.old) (string_bytes out.new) (rows_text (lines_of_story partitions.now story.now))) }
 {
-    let lines = told_lines(alloc, story.place, story.partitions, story.rows)?;
+    let lines = told_lines(alloc, story.place, partitions, story.rows)?;
     push_joined(out, shown_lines(lines.as_slice()))?;
     push_rest(out, MOST_ROWS, lines.len())?;
     Ok(())
@@ -122,19 +125,23 @@ fn push_next(alloc: Global, out: &mut String, story: &Story<'_>) -> Result<(), A
     push_command(alloc, out, story.folder, &told, shown)
 }
 
-/// The text of a story: the line of its fault, the first lines of its rows, each once and with its record's time, what the fault means
-/// and what to do next by what these show, how many faults of each kind there are, the first notes, and the command to run next. These
-/// are 40 lines at most.
+/// The text of a story: the line of its fault, the first lines of its rows, each once and with the time of its record, which these
+/// partitions have, what the fault means and what to do next by what these show, how many faults of each kind there are, the first notes,
+/// and the command to run next. These are 40 lines at most.
 ///
 /// # Errors
 /// Only want of memory.
-pub fn story_text(alloc: Global, story: &Story<'_>) -> Result<String, AllocError>
-    ensures text { IfOk result (λ text. string_bytes text ≡ story_text story.now) }
-    ensures once { IfOk result (λ text. AreDistinct (lines_of_story story.now)) }
-    ensures shown { IfOk result (λ text. AreAmong (take 22 (lines_of_story story.now)) (lines_of_first story.now)) }
+pub fn story_text(
+    alloc: Global,
+    story: &Story<'_>,
+    partitions: &[Partition],
+) -> Result<String, AllocError>
+    ensures text { IfOk result (λ text. string_bytes text ≡ story_text partitions.now story.now) }
+    ensures once { IfOk result (λ text. AreDistinct (lines_of_story partitions.now story.now)) }
+    ensures shown { IfOk result (λ text. AreAmong (take 22 (lines_of_story partitions.now story.now)) (lines_of_first partitions.now story.now)) }
 {
     let mut text = verdict_line(alloc, story.verdict)?;
-    push_rows(alloc, &mut text, story)?;
+    push_rows(alloc, &mut text, story, partitions)?;
     push_page(alloc, &mut text, story.place, story.rows, story.page)?;
     push_text(&mut text, story.counts)?;
     push_notes(alloc, &mut text, story.notes)?;

@@ -11,7 +11,7 @@ use std::alloc::Global;
 /// The fold stands where the log is wanted.
 const NEEDS_LOG: FoldRefusal = FoldRefusal {
     name: "Fold",
-    words: "its partition has a fault by itself, and to list all of these the log is read again, which a fold doesn't hold",
+    words: "its partition has a fault by itself, or a story names it: the log is read again, which a fold doesn't hold",
 };
 
 impl<'a, D: Disk, W: Watch> FolderSource<'a, D, W> {

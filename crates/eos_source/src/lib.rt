@@ -1,7 +1,7 @@
 //! The kept logs of an evidence whose pieces are read from a source, each once and never whole: a piece is read chunk by
 //! chunk, of its data records is kept what is wanted, and the runs of a partition are joined.
 //!
-//! The source may be a folder of files on any disk, or an evidence in memory. Of which pieces there are the shape says: an
+//! The source may be a folder of files on any disk. Of which pieces there are the shape says: an
 //! evidence whose segments have their names and no bytes. A file is opened when a thread wants it; a log is read once and in
 //! order, a fold whole. In memory is what is kept, and for each thread what reading one segment takes.
 #![tactic(auto)]
@@ -13,7 +13,6 @@ mod folder_source;
 mod joined;
 pub mod laws;
 mod logs;
-mod memory;
 mod order;
 mod piece;
 mod plan;
@@ -27,6 +26,5 @@ mod told;
 pub use eos_commits::source_topics;
 pub use folder_source::FolderSource;
 pub use logs::{KeptLogs, Tally, kept_logs};
-pub use memory::{MemoryFault, MemorySource};
 pub use reader::SegmentReader;
 pub use source::{Piece, Source};

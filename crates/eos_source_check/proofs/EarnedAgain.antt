@@ -9,7 +9,7 @@ use Rattle.eos_touch.specs.declared.fault.PartitionFault.{PartitionFault}
 use Rattle.eos_source.specs.Said.{Known}
 use Rattle.eos_source_check.specs.declared.fault.Unlisted.{Unlisted}
 use Rattle.eos_source_check.specs.declared.fault.Unlisted.TheVariants.{Refused, Fold, Changed, OutOfMemory}
-use Rattle.eos_source_check.specs.Refusals.{IsOther, IsEarned, IsRefusedFor, IsRefusedAgain}
+use Rattle.eos_source_check.specs.Refusals.{IsOther, IsEarned, IsRefusedFor, IsRefusedAgain, IsUnread}
 use Rattle.eos_source_check.specs.steps.Earned.{IsOfPiece, IsOfPieces, IsOfPartition, IsRefusedAmong}
 use Rattle.eos_source_check.proofs.PassedAgain.{first_of}
 
@@ -63,3 +63,11 @@ module _ {F : Type 0} (outcomes : ℕ → Option F → Type 0) where
   refused_again shapes first i p (Fold piece) lt is at h = absurd h
   refused_again shapes first i p (Changed piece) lt is at h = absurd h
   refused_again shapes first i p OutOfMemory lt is at h = tt
+
+  -- of one partition: nothing has changed
+  pub unread : (shapes : List Partition) (first i : ℕ) (p : Partition) (why : Unlisted F) → i < length shapes → p ≡ get_or shapes i p → first ≡ first_of shapes i
+      → IsOfPieces outcomes first (length p.segments) why → IsUnread outcomes (length (segments_of shapes)) why
+  unread shapes first i p (Refused fault) lt is at h = (h.0, omega (arith, h.2, at, within shapes i p lt is), h.3)
+  unread shapes first i p (Fold piece) lt is at h = omega (arith, h.1, at, within shapes i p lt is)
+  unread shapes first i p (Changed piece) lt is at h = absurd h
+  unread shapes first i p OutOfMemory lt is at h = tt

@@ -7,7 +7,7 @@ use Rattle.eos_evidence.specs.declared.segment.Segment.{Segment}
 use Rattle.eos_evidence.specs.Evidence.{EvidenceParts, segments_of}
 use Rattle.eos_source.specs.Said.{Said, Log, Known}
 use Rattle.eos_source.specs.Shapes.{IsPiece, ArePieces, ArePartitions, IsOfShape}
-use Rattle.eos_source_check.specs.Again.{IsLogAgain, AreLogsAgain, AreAgain, AreThere}
+use Rattle.eos_source_check.specs.Again.{IsLogAgain, AreLogsAgain, IsAgain, AreAgain, AreThere}
 
 same_segment : (a b : Segment) → a.topic ≡ b.topic → a.partition ≡ b.partition → a.base ≡ b.base → a.bytes ≡ b.bytes → a ≡ b
 same_segment a b topic partition base bytes =
@@ -24,7 +24,7 @@ as_said known said name segment again k p l =
     same_segment segment again (read.topic ∙ sym l.piece.topic) (read.partition ∙ sym l.piece.partition) (read.base ∙ sym l.piece.base) read.says
 
 -- so many pieces from this number on are known to say this
-abbrev AreKnown : (ℕ → Known) → (ℕ → Said) → ℕ → ℕ → Type 0
+abbrev pub AreKnown : (ℕ → Known) → (ℕ → Said) → ℕ → ℕ → Type 0
 AreKnown known said first count = (piece : ℕ) → first ≤ piece → piece < first + count → (known piece).said ≡ Some (said piece)
 
 segments_there : (known : ℕ → Known) (said : ℕ → Said) (piece : ℕ) (names segments again : List Segment) → AreKnown known said piece (length names) → ArePieces said piece names segments
@@ -39,6 +39,10 @@ segments_there known said piece (n ∷ ns) (s ∷ ss) (a ∷ others) k p l =
     let behind : ss ≡ others = segments_there known said (suc piece) ns ss others (λ m ge lt. k m (omega (arith, ge)) (omega (arith, lt))) p.1 l.1 in
     λ i. here i ∷ behind i
 
+pub partition_there : (known : ℕ → Known) (said : ℕ → Said) (piece : ℕ) (shape p again : Partition) → AreKnown known said piece (length shape.segments)
+    → (p.end ≡ shape.end) × ArePieces said piece shape.segments p.segments → IsAgain known piece shape again → p ≡ again
+partition_there known said piece shape p again k of a = same_partition p again (of.0 ∙ sym a.end) (segments_there known said piece shape.segments p.segments again.segments k of.1 a.logs)
+
 partitions_there : (known : ℕ → Known) (said : ℕ → Said) (piece : ℕ) (shapes ps : List Partition) (again : List (Option Partition)) → AreKnown known said piece (length (segments_of shapes))
     → ArePartitions said piece shapes ps → AreAgain known piece shapes again → AreThere again ps
 partitions_there known said piece shapes ps [] k p a = tt
@@ -48,9 +52,8 @@ partitions_there known said piece (shape ∷ shapes) (q ∷ ps) (None ∷ more) 
     let count : length (shape.segments ++ segments_of shapes) ≡ length shape.segments + length (segments_of shapes) = length-append shape.segments (segments_of shapes) in
     partitions_there known said (piece + length shape.segments) shapes ps more (λ m ge lt. k m (omega (arith, ge)) (omega (arith, lt, count))) p.2 a
 partitions_there known said piece (shape ∷ shapes) (q ∷ ps) (Some r ∷ more) k p a =
-    let count : length (shape.segments ++ segments_of shapes) ≡ length shape.segments + length (segments_of shapes) = length-append shape.segments (segments_of shapes) in
-    let segments : q.segments ≡ r.segments = segments_there known said piece shape.segments q.segments r.segments (λ m ge lt. k m ge (omega (arith, lt, count))) p.1 a.0.logs in (
-      same_partition q r (p.0 ∙ sym a.0.end) segments,
+    let count : length (shape.segments ++ segments_of shapes) ≡ length shape.segments + length (segments_of shapes) = length-append shape.segments (segments_of shapes) in (
+      partition_there known said piece shape q r (λ m ge lt. k m ge (omega (arith, lt, count))) (p.0, p.1) a.0,
       partitions_there known said (piece + length shape.segments) shapes ps more (λ m ge lt. k m (omega (arith, ge)) (omega (arith, lt, count))) p.2 a.1,
     )
 

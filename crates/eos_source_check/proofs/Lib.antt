@@ -1,7 +1,6 @@
 pub mod KeptTold
 mod SameShape
 pub mod VerdictKept
-mod JudgedInMemory
 pub mod FirstOfAll
 pub mod PhaseLists
 pub mod LaterAlike
@@ -15,6 +14,7 @@ pub mod LogsAgain
 pub mod PassedAgain
 pub mod ListedAgain
 pub mod KnownAgain
+pub mod NamedAgain
 pub mod Among
 pub mod KeptNotes
 pub mod KeptTallies

@@ -1,7 +1,9 @@
 -- Partitions that are read again from a source, of whose logs no bytes were kept.
-use Rattle.std.specs.Prelude.{◌≡◌, ℕ, suc, ◌+◌, List, [], ◌∷◌, length, Option, None, Some, ⊤}
+use Rattle.std.specs.Prelude.{◌≡◌, ℕ, suc, ◌+◌, List, [], ◌∷◌, length, Bool, true, false, Option, None, Some, ⊤}
+use Rattle.eos_base.specs.declared.partition_name.PartitionName.{PartitionName}
 use Rattle.eos_evidence.specs.declared.partition.Partition.{Partition}
 use Rattle.eos_evidence.specs.declared.segment.Segment.{Segment}
+use Rattle.eos_sought.specs.Partitions.{is_named, partition_named}
 use Rattle.eos_source.specs.Said.{Log, Known, IsAsKnown}
 use Rattle.eos_source.specs.Shapes.{IsPiece}
 
@@ -35,3 +37,29 @@ AreThere [] ps = ⊤
 AreThere (one ∷ more) [] = ⊥
 AreThere (None ∷ more) (p ∷ ps) = AreThere more ps
 AreThere (Some again ∷ more) (p ∷ ps) = (p ≡ again) × AreThere more ps
+
+-- ---- one partition, by its name
+
+abbrev pub IsReadOf : (ℕ → Known) → ℕ → Partition → Option Partition → Type 0
+IsReadOf known piece shape None = ⊥
+IsReadOf known piece shape (Some p) = IsAgain known piece shape p
+
+abbrev pub IsReadIf : Bool → Type 0 → Type 0 → Type 0
+IsReadIf true here others = here
+IsReadIf false here others = others
+
+-- the first partition of this name among these shapes, as it was read again; none where there is no such partition
+abbrev pub IsNamedAgain : (ℕ → Known) → ℕ → List Partition → PartitionName → Option Partition → Type 0
+IsNamedAgain known piece [] name read = read ≡ None
+IsNamedAgain known piece (shape ∷ shapes) name read = IsReadIf (is_named name shape) (IsReadOf known piece shape read) (IsNamedAgain known (piece + length shape.segments) shapes name read)
+
+abbrev pub name_of : Partition → PartitionName
+name_of p = record { topic = p.end.topic; partition = p.end.partition }
+
+-- a partition that was read again by its name
+abbrev pub IsRead : (ℕ → Known) → List Partition → Partition → Type 0
+IsRead known shapes p = IsNamedAgain known 0 shapes (name_of p) (Some p)
+
+-- these partitions have it as it was read again
+abbrev pub IsThere : List Partition → Partition → Type 0
+IsThere ps p = partition_named (name_of p) ps ≡ Some p

@@ -60,3 +60,10 @@ IsRefusedFor Is OutOfMemory = ⊤
 -- one of so many pieces
 abbrev pub IsRefusedAgain : {F : Type 0} → (ℕ → Option F → Type 0) → ℕ → Unlisted F → Type 0
 IsRefusedAgain outcomes pieces = IsRefusedFor (λ fault. (piece : ℕ) × (piece < pieces) × outcomes piece (Some fault))
+
+-- one of so many pieces is refused, or is a fold, when it is read again
+abbrev pub IsUnread : {F : Type 0} → (ℕ → Option F → Type 0) → ℕ → Unlisted F → Type 0
+IsUnread outcomes pieces (Refused fault) = (piece : ℕ) × (piece < pieces) × outcomes piece (Some fault)
+IsUnread outcomes pieces (Fold piece) = piece < pieces
+IsUnread outcomes pieces (Changed piece) = ⊥
+IsUnread outcomes pieces OutOfMemory = ⊤

@@ -1,17 +1,19 @@
 //! A partition that is read again, whole.
 
 ghost use Rattle.std.specs.Prelude.{◌≡◌, ◌↔◌, ◌+◌, ◌≤◌, true, Some, length, option_map, slice_get, IfOk, IfErr};
+ghost use Rattle.eos_evidence.specs.Evidence.{segments_of};
 ghost use Rattle.eos_source.specs.Said.{known_by};
-ghost use Rattle.eos_source_check.specs.Again.{IsAgain};
-ghost use Rattle.eos_source_check.specs.Refusals.{IsNoLog};
+ghost use Rattle.eos_source_check.specs.Again.{IsAgain, IsNamedAgain};
+ghost use Rattle.eos_source_check.specs.Refusals.{IsNoLog, IsUnread};
 ghost use Rattle.eos_source_check.specs.steps.Earned.{IsOfPiece, IsOfPieces, IsOfPartition};
 ghost use Rattle.eos_source_check.specs.steps.FaultsAgain.{IsLogOf, HasFaultsAgain, HasFaultsIfFound, BeginsIfFound};
 
 use crate::fault::Unlisted;
 use bytes::Bytes;
-use eos_base::Listed;
-use eos_evidence::{Partition, Segment, read_segment};
+use eos_base::{Listed, PartitionName};
+use eos_evidence::{Evidence, Partition, Segment, read_segment};
 use eos_faults::faults_of_partition;
+use eos_sought::is_named;
 use eos_source::{Piece, Source};
 use eos_touch::PartitionFault;
 use std::alloc::Global;
@@ -63,6 +65,34 @@ fn read_again<S: Source>(
         end: shape.end.clone()?,
         segments: Listed::new(segments),
     })
+}
+
+/// The partition of this name, whole, as it is read now; none where the evidence of this shape has none. Its segments are read one after
+/// the other.
+///
+/// # Errors
+/// A segment isn't there any more, is a fold, or can't be read; or want of memory.
+pub fn partition_again<S: Source>(
+    alloc: Global,
+    source: &S,
+    shape: &Evidence,
+    name: &PartitionName,
+) -> Result<Option<Partition>, Unlisted<S::Fault>>
+    ensures read { IfOk result (IsNamedAgain (known_by (S.said source.now) (S.is_log source.now)) 0 shape.now.partitions name.now) }
+    ensures fold { IfErr result (λ why. IsNoLog (S.is_log source.now) why) }
+    ensures unread { IfErr result (IsUnread (S.outcomes source.now) (length (segments_of shape.now.partitions))) }
+{
+    let partitions = shape.partitions();
+    let mut first = 0u64;
+    for i in 0..partitions.len() {
+        let partition = &partitions[i];
+        if is_named(partition, name) {
+            let read = read_again(alloc, source, partition, first)?;
+            return Ok(Some(read));
+        }
+        first += partition.segments.len() as u64;
+    }
+    Ok(None)
 }
 
 /// Whether the first of these faults is this one.

@@ -9,7 +9,7 @@ ghost use Rattle.eos_check.specs.Verdicts.{StandsInLog, StandsInMatching};
 ghost use Rattle.eos_source_check.specs.FaultLists.{faults_in};
 ghost use Rattle.eos_source_check.specs.LaterFaults.{AreLaterFaults};
 
-use crate::lists::{AllFaults, listed};
+use crate::lists::AllFaults;
 use eos_check::Fault;
 use eos_commits::VisibleFault;
 use eos_evidence::Spec;
@@ -111,18 +111,6 @@ fn after_partitions<'a>(
     Ok(AllFaults::Listed(list))
 }
 
-/// What `later_faults` lists, where it stands in these logs.
-pub(crate) fn lent_faults<'a>(
-    alloc: Global,
-    spec: &'a Spec,
-    logs: &'a Logs,
-) -> Result<AllFaults<'a>, AllocError>
-    ensures { AreInOrder logs.now.parts.items → IfOk result (λ faults. AreLaterFaults spec.now.apps logs.now.parts.items (faults_in faults)) }
-{
-    let all = after_partitions(alloc, spec, logs.parts.as_slice())?;
-    Ok(all)
-}
-
 /// Every fault of the phases behind the first that stands in these logs, whole or kept ones, as if none had a fault by itself: in
 /// the verdict's order, each once, and of the outputs that one input lacks the first alone. They are of the first of these phases
 /// that has one. Where no partition of an evidence has a fault by itself, they are all faults of the evidence, over its logs or
@@ -132,10 +120,13 @@ pub(crate) fn lent_faults<'a>(
 ///
 /// # Errors
 /// Only want of memory.
-pub fn later_faults(alloc: Global, spec: &Spec, logs: &Logs) -> Result<Vec<Fault>, AllocError>
-    ensures { AreInOrder logs.now.parts.items → IfOk result (λ faults. AreLaterFaults spec.now.apps logs.now.parts.items faults.items) }
+pub fn later_faults<'a>(
+    alloc: Global,
+    spec: &'a Spec,
+    logs: &'a Logs,
+) -> Result<AllFaults<'a>, AllocError>
+    ensures { AreInOrder logs.now.parts.items → IfOk result (λ faults. AreLaterFaults spec.now.apps logs.now.parts.items (faults_in faults)) }
 {
-    let all = lent_faults(alloc, spec, logs)?;
-    let list = listed(alloc, all)?;
-    Ok(list)
+    let all = after_partitions(alloc, spec, logs.parts.as_slice())?;
+    Ok(all)
 }

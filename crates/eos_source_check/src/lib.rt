@@ -1,7 +1,7 @@
 //! The verdict of an evidence that is read from a source, all its faults, its notes and its tables: worked out of what is
 //! kept of its logs, each is that of the logs.
 //!
-//! Of a source whose bytes are known, as an evidence in memory, it is the verdict of these bytes. What a file gives no
+//! Of a source whose bytes are known, as a disk in memory, it is the verdict of these bytes. What a file gives no
 //! contract can say: of a folder of logs it is the verdict of some evidence of this shape, which is the one that was read.
 //! Where a piece is a fold it is the verdict of each evidence whose segment has this fold: that there is one is for who made
 //! the fold to know.
@@ -11,8 +11,6 @@
 #![tactic(auto)]
 
 mod again;
-mod all;
-mod evidence;
 mod fault;
 mod judged;
 mod kept;
@@ -24,17 +22,14 @@ pub mod list_laws;
 mod listed;
 mod lists;
 mod noting;
-mod partitions;
 mod rising;
 mod times;
 
-pub use all::{all_faults, of_partitions};
-pub use evidence::judge_evidence;
+pub use again::partition_again;
 pub use fault::Unlisted;
 pub use judged::{Judged, Noted, judge_noted, judge_source};
 pub use later::later_faults;
-pub use listed::all_source_faults;
+pub use listed::{all_faults, all_source_faults};
 pub use lists::AllFaults;
 pub use noting::By;
-pub use partitions::all_partition_faults;
 pub use times::times_each;

@@ -1,21 +1,24 @@
 //! All faults, of the first phase that has one.
 
-ghost use Rattle.std.specs.Prelude.{◌≡◌, length, take, slice_get, IfOk, IfErr};
+ghost use Rattle.std.specs.Prelude.{◌≡◌, length, map, take, slice_get, IfOk, IfErr};
+ghost use Rattle.eos_verdict.specs.declared.verdict.Fault.TheVariants.{Partition as InPartition};
 ghost use Rattle.eos_kept.specs.Faults.{first_of};
 ghost use Rattle.eos_source.specs.Said.{known_by};
+ghost use Rattle.eos_source_check.specs.FaultLists.{faults_in};
 ghost use Rattle.eos_source_check.specs.Listed.{IsListOf, BeginsAsFound};
 ghost use Rattle.eos_source_check.specs.Refusals.{IsNoLog, IsEarned};
 ghost use Rattle.eos_source_check.specs.steps.FaultsAgain.{AreListedAgain};
 
 use crate::again::faults_if_found;
 use crate::fault::Unlisted;
-use crate::{later_faults, of_partitions};
+use crate::later::later_faults;
+use crate::lists::{AllFaults, listed};
 use eos_check::Fault;
 use eos_evidence::Evidence;
 use eos_kept::Logs;
 use eos_source::Source;
 use eos_touch::PartitionFault;
-use std::alloc::Global;
+use std::alloc::{AllocError, Global};
 
 /// All faults of the partitions by themselves, of which one was found in these.
 fn partition_faults<S: Source>(
@@ -41,16 +44,52 @@ fn partition_faults<S: Source>(
     Ok(list)
 }
 
+/// The faults of partitions by themselves, as faults of an evidence, in the same order.
+fn of_partitions(alloc: Global, faults: Vec<PartitionFault>) -> Result<Vec<Fault>, AllocError>
+    ensures { IfOk result (λ list. list.items ≡ map InPartition faults.items) }
+{
+    let mut list = Vec::new(alloc);
+    for fault in faults {
+        list.push(Fault::Partition(fault))?;
+    }
+    Ok(list)
+}
+
 /// Every fault of the evidence of this shape of whose logs these are kept, as `judge_source` keeps them, in the verdict's order, each
 /// once; but of the outputs that one input lacks the first alone. Where a partition has a fault by itself, these are of the
 /// partitions, and each one that has is read again from the source: it is true of an evidence that has these partitions as they
-/// were read again.
+/// were read again. Since a fault of a phase counts only where none of the phases before stands, they are of one phase.
 ///
-/// Beside what is kept and the faults, memory is that of one such partition, whole.
+/// Beside what is kept, memory is that of one such partition, whole, and of the faults, those of outputs without their names.
 ///
 /// # Errors
 /// Of a partition that is read again: a piece that isn't there or is a fold, or that its least fault is another than the one that was
 /// found; or want of memory.
+pub fn all_faults<'a, S: Source>(
+    alloc: Global,
+    source: &S,
+    shape: &'a Evidence,
+    logs: &'a Logs,
+) -> Result<AllFaults<'a>, Unlisted<S::Fault>>
+    ensures ok { IfOk result (λ faults. IsListOf (known_by (S.said source.now) (S.is_log source.now)) shape.now logs.now (faults_in faults)) }
+    ensures first { IfOk result (λ faults. BeginsAsFound shape.now logs.now (faults_in faults)) }
+    ensures fold { IfErr result (λ why. IsNoLog (S.is_log source.now) why) }
+    ensures earned { IfErr result (IsEarned (known_by (S.said source.now) (S.is_log source.now)) (S.outcomes source.now) shape.now.partitions logs.now.faults.items) }
+{
+    let spec = shape.spec();
+    if let Some(_fault) = logs.first_fault() {
+        let faults = partition_faults(alloc, source, shape, logs.faults.as_slice())?;
+        let list = of_partitions(alloc, faults)?;
+        return Ok(AllFaults::Listed(list));
+    }
+    let later = later_faults(alloc, spec, logs)?;
+    Ok(later)
+}
+
+/// The same, each with names of its own.
+///
+/// # Errors
+/// Those of `all_faults`.
 pub fn all_source_faults<S: Source>(
     alloc: Global,
     source: &S,
@@ -62,12 +101,7 @@ pub fn all_source_faults<S: Source>(
     ensures fold { IfErr result (λ why. IsNoLog (S.is_log source.now) why) }
     ensures earned { IfErr result (IsEarned (known_by (S.said source.now) (S.is_log source.now)) (S.outcomes source.now) shape.now.partitions logs.now.faults.items) }
 {
-    let spec = shape.spec();
-    if let Some(_fault) = logs.first_fault() {
-        let faults = partition_faults(alloc, source, shape, logs.faults.as_slice())?;
-        let list = of_partitions(alloc, faults)?;
-        return Ok(list);
-    }
-    let list = later_faults(alloc, spec, logs)?;
+    let faults = all_faults(alloc, source, shape, logs)?;
+    let list = listed(alloc, faults)?;
     Ok(list)
 }

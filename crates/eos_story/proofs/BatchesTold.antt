@@ -50,7 +50,7 @@ all_dropped {X} n xs ys all = λ i d lt. has_all (Has xs) ys all (get_or (drop n
 pub all_taken : {X : Type 0} (n : ℕ) (xs : List X) → All (Has xs) (take n xs)
 all_taken n xs = λ i d lt. has_taken n xs _ (has_index (take n xs) i d lt)
 
-pub around_told : {scene : Scene} {a b c : List Row} (name : PartitionName) (wanted : Wanted) (offset : ℕ) (found shown : List Placed) → AreBatchesOf scene.evidence.now.partitions name wanted found → Tells scene a b (StandInOrder (IsBatchRow name wanted) shown) → shown ≡ around offset found
+pub around_told : {scene : Scene} {a b c : List Row} (name : PartitionName) (wanted : Wanted) (offset : ℕ) (found shown : List Placed) → AreBatchesOf scene.partitions.now name wanted found → Tells scene a b (StandInOrder (IsBatchRow name wanted) shown) → shown ≡ around offset found
     → Tells scene b c (λ told. length shown < length found → Has told (rows.MoreBatches name wanted (length shown) (length found))) → TellsEach scene a c (Around name wanted offset ∷ [])
 around_told {scene} {a} {b} {c} name wanted offset found shown are h e k =
     let R = IsBatchRow name wanted in
@@ -70,7 +70,7 @@ around_told {scene} {a} {b} {c} name wanted offset found shown are h e k =
       );
     }
 
-pub batches_told : {scene : Scene} {a b c : List Row} (name : PartitionName) (wanted : Wanted) (most : ℕ) (found shown : List Placed) → AreBatchesOf scene.evidence.now.partitions name wanted found → Tells scene a b (StandInOrder (IsBatchRow name wanted) shown) → shown ≡ take most found
+pub batches_told : {scene : Scene} {a b c : List Row} (name : PartitionName) (wanted : Wanted) (most : ℕ) (found shown : List Placed) → AreBatchesOf scene.partitions.now name wanted found → Tells scene a b (StandInOrder (IsBatchRow name wanted) shown) → shown ≡ take most found
     → Tells scene b c (λ told. most < length found → Has told (rows.MoreBatches name wanted most (length found))) → TellsEach scene a c (Batches name wanted most ∷ [])
 batches_told {scene} {a} {b} {c} name wanted most found shown are h e k =
     let R = IsBatchRow name wanted in

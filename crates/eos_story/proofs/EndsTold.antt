@@ -1,5 +1,5 @@
 -- The end of a partition, and its segments.
-use Rattle.std.proofs.Common.{◌≡◌, ◌≢◌, ℕ, ◌-◌, ◌<◌, List, [], ◌∷◌, length, sym, subst, ◌∙◌, ap, Some, Option}
+use Rattle.std.proofs.Common.{◌≡◌, ◌≢◌, ℕ, ◌-◌, ◌<◌, List, [], ◌∷◌, length, sym, subst, Some, Option}
 use Rattle.eos_base.specs.declared.partition_name.PartitionName.{PartitionName}
 use Rattle.eos_base.specs.Members.{Has}
 use Rattle.eos_evidence.specs.declared.partition.Partition.{Partition}
@@ -35,14 +35,12 @@ around_told {scene} {a} {b} {c} name offset segments shown h e k =
       more = subst (λ (ss : List Segment). length ss < length segments → Has c (rows.MoreSegments name (length ss) (length segments))) e t.1;
     }) (told_both (λ told added is. in_order_grown R shown told added is) h k)
 
-pub segments_told : {scene : Scene} {a b c : List Row} (name : PartitionName) (offset : ℕ) (p : Partition) (ps : List Partition) → ps ≡ scene.evidence.now.partitions → partition_named name ps ≡ Some p
-    → Tells scene a b (λ told. Has told (rows.End name p.end.end)) → Tells scene b c (AreSegmentsAround name offset p.segments)
-    → Tells scene a c (AreSegmentsShown name offset (partition_named name scene.evidence.now.partitions))
-segments_told {scene} {a} {b} {c} name offset p ps same named h k =
-    let e : partition_named name scene.evidence.now.partitions ≡ Some p = ap (partition_named name) (sym same) ∙ named in
-    told_as (AreSegmentsShown name offset (partition_named name scene.evidence.now.partitions)) (λ t. subst (λ (q : Option Partition). AreSegmentsShown name offset q c) (sym e) (t.0, t.1)) (told_both (λ told added is. has_grown told added _ is) h k)
+pub segments_told : {scene : Scene} {a b c : List Row} (name : PartitionName) (offset : ℕ) (p : Partition) → partition_named name scene.partitions.now ≡ Some p → Tells scene a b (λ told. Has told (rows.End name p.end.end))
+    → Tells scene b c (AreSegmentsAround name offset p.segments) → Tells scene a c (AreSegmentsShown name offset (partition_named name scene.partitions.now))
+segments_told {scene} {a} {b} {c} name offset p named h k =
+    told_as (AreSegmentsShown name offset (partition_named name scene.partitions.now)) (λ t. subst (λ (q : Option Partition). AreSegmentsShown name offset q c) (sym named) (t.0, t.1)) (told_both (λ told added is. has_grown told added _ is) h k)
 
 pub ends_told : {scene : Scene} {a b c : List Row} (name : PartitionName) (offset : ℕ) → Tells scene a b (λ told. offset ≢ 0 → IsFirstShown name (Holding (offset - 1)) told)
-    → Tells scene b c (AreSegmentsShown name offset (partition_named name scene.evidence.now.partitions)) → TellsEach scene a c (Ends name offset ∷ [])
+    → Tells scene b c (AreSegmentsShown name offset (partition_named name scene.partitions.now)) → TellsEach scene a c (Ends name offset ∷ [])
 ends_told {scene} {a} {b} {c} name offset h k =
     told_each (Ends name offset ∷ []) (λ t. (record { last = t.0; segments = t.1 }, tt)) (told_both (λ told added is ne. first_grown name (Holding (offset - 1)) told added (is ne)) h k)

@@ -7,3 +7,5 @@ pub mod PairsTold
 pub mod EndsTold
 pub mod ListedTold
 pub mod BothHold
+pub mod QuestionsAbout
+pub mod Carried

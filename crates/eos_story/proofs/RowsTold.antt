@@ -36,10 +36,10 @@ nothing scene rows = record { added = []; grown = sym (append-nil rows); are = �
 pub told_as : {scene : Scene} {a b : List Row} {P : List Row → Type 0} (Q : List Row → Type 0) → (P b → Q b) → Tells scene a b P → Tells scene a b Q
 told_as {scene} {a} {b} {P} Q f h = record { added = h.added; grown = h.grown; are = h.are; told = f h.told }
 
-pub told_each : {scene : Scene} {a b : List Row} {P : List Row → Type 0} (qs : List Question) → (P b → AnswersEach scene.evidence.now.partitions scene.logs.now b qs) → Tells scene a b P → TellsEach scene a b qs
+pub told_each : {scene : Scene} {a b : List Row} {P : List Row → Type 0} (qs : List Question) → (P b → AnswersEach scene.partitions.now scene.logs.now b qs) → Tells scene a b P → TellsEach scene a b qs
 told_each {scene} {a} {b} {P} qs f h = record { added = h.added; grown = h.grown; are = h.are; answers = f h.told }
 
-pub each_told : {scene : Scene} {a b : List Row} {qs : List Question} (P : List Row → Type 0) → (AnswersEach scene.evidence.now.partitions scene.logs.now b qs → P b) → TellsEach scene a b qs → Tells scene a b P
+pub each_told : {scene : Scene} {a b : List Row} {qs : List Question} (P : List Row → Type 0) → (AnswersEach scene.partitions.now scene.logs.now b qs → P b) → TellsEach scene a b qs → Tells scene a b P
 each_told {scene} {a} {b} {qs} P f h = record { added = h.added; grown = h.grown; are = h.are; told = f h.answers }
 
 pub grown_twice : (a b c x y : List Row) → b ≡ a ++ x → c ≡ b ++ y → c ≡ a ++ (x ++ y)
@@ -56,7 +56,7 @@ told_both {scene} {a} {b} {c} {P} {Q} grows h k = record {
 
 pub then : {scene : Scene} {a b c : List Row} {qs rs : List Question} → TellsEach scene a b qs → TellsEach scene b c rs → TellsEach scene a c (qs ++ rs)
 then {scene} {a} {b} {c} {qs} {rs} h k =
-    let ps = scene.evidence.now.partitions in
+    let ps = scene.partitions.now in
     let logs = scene.logs.now in
     record {
       added = h.added ++ k.added;

@@ -2,6 +2,7 @@ pub mod Answers
 pub mod HeaderNames
 pub mod HeaderBytes
 pub mod Listings
+pub mod Names
 pub mod PlaceOfFault
 pub mod Questions
 pub mod Rows

@@ -101,4 +101,4 @@ IsTrue ps logs (rows.Header place name values) = StandUnder ps place name values
 
 -- each row says what is so
 abbrev pub AreTrue : Scene → List Row → Type 0
-AreTrue scene rows = All (IsTrue scene.evidence.now.partitions scene.logs.now) rows
+AreTrue scene rows = All (IsTrue scene.partitions.now scene.logs.now) rows

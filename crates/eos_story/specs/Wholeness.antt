@@ -4,8 +4,8 @@ use Rattle.eos_base.specs.declared.partition_name.PartitionName.{PartitionName}
 use Rattle.eos_base.specs.Members.{Has}
 use Rattle.eos_verdict.specs.declared.verdict.Fault.{Fault}
 use Rattle.eos_verdict.specs.declared.verdict.Fault.TheVariants as faults
+use Rattle.eos_evidence.specs.declared.application.App.{App}
 use Rattle.eos_evidence.specs.declared.partition.Partition.{Partition}
-use Rattle.eos_evidence.specs.Evidence.{EvidenceParts}
 use Rattle.eos_fold.specs.Parts.{PartLog}
 use Rattle.eos_sought.specs.declared.partition.Placed.{Placed}
 use Rattle.eos_sought.specs.declared.wanted.Wanted.TheVariants.{Of, Ending, Open}
@@ -46,8 +46,8 @@ IsPartitionTold ps logs name offset told (End end) = AnswersEach ps logs told (E
 IsPartitionTold ps logs name offset told (Pair fault producer) = IsPairTold ps logs name producer offset told
 IsPartitionTold ps logs name offset told (OpenAtEnd producer) = IsOpenTold ps logs name producer told
 
-abbrev pub IsWhole : EvidenceParts → List PartLog → Fault → List Row → Type 0
-IsWhole e logs (faults.Partition f) told = IsPartitionTold e.partitions logs (record { topic = f.topic; partition = f.partition }) f.offset told f.kind
-IsWhole e logs (faults.Log f) told = AnswersEach e.partitions logs told (of_log logs f)
-IsWhole e logs (faults.Match f) told = AnswersEach e.partitions logs told (of_match logs f)
-IsWhole e logs (faults.Lineage f) told = AnswersEach e.partitions logs told (of_lineage e.spec.apps logs f)
+abbrev pub IsWhole : List App → List Partition → List PartLog → Fault → List Row → Type 0
+IsWhole apps ps logs (faults.Partition f) told = IsPartitionTold ps logs (record { topic = f.topic; partition = f.partition }) f.offset told f.kind
+IsWhole apps ps logs (faults.Log f) told = AnswersEach ps logs told (of_log logs f)
+IsWhole apps ps logs (faults.Match f) told = AnswersEach ps logs told (of_match logs f)
+IsWhole apps ps logs (faults.Lineage f) told = AnswersEach ps logs told (of_lineage apps logs f)

@@ -2,3 +2,4 @@
 pub mod Batches
 pub mod Telling
 pub mod Claims
+pub mod Same

@@ -42,7 +42,7 @@ pub(crate) fn push_first(
 ) -> Result<Option<Placed>, AllocError>
     ensures { IfOk result (λ placed. Tells scene.now rows.old.items rows.new.items (λ told. Has told (FirstRow name.now wanted placed))) }
 {
-    let found = batches_of(scene.alloc, scene.evidence.partitions(), name, wanted)?;
+    let found = batches_of(scene.alloc, scene.partitions, name, wanted)?;
     let placed = first_of(found.as_slice());
     let partition = copy_name(name)?;
     add_row(
@@ -146,11 +146,11 @@ pub(crate) fn push_touches(
     producer: i64,
     offset: u64,
 ) -> Result<Option<Placed>, AllocError>
-    ensures { IfOk result (λ before. (found : List Batch) × AreBatchesOf scene.now.evidence.now.partitions name.now (Of producer) found
+    ensures { IfOk result (λ before. (found : List Batch) × AreBatchesOf scene.now.partitions.now name.now (Of producer) found
         × (before ≡ slice_get found (count_below offset found - 1)) × TellsEach scene.now rows.old.items rows.new.items (Around name.now (Of producer) offset ∷ [])) }
 {
     let wanted = Wanted::Of { producer };
-    let all = batches_of(scene.alloc, scene.evidence.partitions(), name, wanted)?;
+    let all = batches_of(scene.alloc, scene.partitions, name, wanted)?;
     let batches = all.as_slice();
     let found = Found {
         name,
@@ -201,7 +201,7 @@ pub(crate) fn push_some(
 ) -> Result<(), AllocError>
     ensures { OnOk result (TellsEach scene.now rows.old.items rows.new.items (Batches name.now wanted most ∷ [])) }
 {
-    let found = batches_of(scene.alloc, scene.evidence.partitions(), name, wanted)?;
+    let found = batches_of(scene.alloc, scene.partitions, name, wanted)?;
     let batches = found.as_slice();
     let found = Found {
         name,

@@ -48,7 +48,7 @@ fn push_segment(
     partition: &Partition,
     segment: &Segment,
 ) -> Result<(), AllocError>
-    requires named { partition_named name.now scene.now.evidence.now.partitions ≡ Some partition.now }
+    requires named { partition_named name.now scene.now.partitions.now ≡ Some partition.now }
     requires has { Has partition.now.segments segment.now }
     ensures { OnOk result (Tells scene.now rows.old.items rows.new.items (IsNext rows.old.items (SegmentRow name.now (base_of segment.now) (length segment.now.bytes)))) }
 {
@@ -75,7 +75,7 @@ fn push_each(
     partition: &Partition,
     segments: &[Segment],
 ) -> Result<(), AllocError>
-    requires named { partition_named name.now scene.now.evidence.now.partitions ≡ Some partition.now }
+    requires named { partition_named name.now scene.now.partitions.now ≡ Some partition.now }
     requires have { All (Has partition.now.segments) segments.now }
     ensures { OnOk result (Tells scene.now rows.old.items rows.new.items (StandInOrder (IsSegmentRow name.now) segments.now)) }
 {
@@ -93,7 +93,7 @@ fn push_more(
     partition: &Partition,
     shown: usize,
 ) -> Result<(), AllocError>
-    requires { partition_named name.now scene.now.evidence.now.partitions ≡ Some partition.now }
+    requires { partition_named name.now scene.now.partitions.now ≡ Some partition.now }
     ensures { OnOk result (Tells scene.now rows.old.items rows.new.items (λ told. shown < length partition.now.segments
         → Has told (MoreSegments name.now shown (length partition.now.segments)))) }
 {
@@ -122,7 +122,7 @@ fn push_segments(
     partition: &Partition,
     offset: u64,
 ) -> Result<(), AllocError>
-    requires { partition_named name.now scene.now.evidence.now.partitions ≡ Some partition.now }
+    requires { partition_named name.now scene.now.partitions.now ≡ Some partition.now }
     ensures { OnOk result (Tells scene.now rows.old.items rows.new.items (AreSegmentsAround name.now offset partition.now.segments)) }
 {
     let segments = partition.segments.as_slice();
@@ -139,7 +139,7 @@ fn push_end(
     name: &PartitionName,
     partition: &Partition,
 ) -> Result<(), AllocError>
-    requires { partition_named name.now scene.now.evidence.now.partitions ≡ Some partition.now }
+    requires { partition_named name.now scene.now.partitions.now ≡ Some partition.now }
     ensures { OnOk result (Tells scene.now rows.old.items rows.new.items (λ told. Has told (EndRow name.now partition.now.end.end))) }
 {
     let end = partition.end.end;
@@ -172,9 +172,9 @@ fn push_rest(
     name: &PartitionName,
     offset: u64,
 ) -> Result<(), AllocError>
-    ensures { OnOk result (Tells scene.now rows.old.items rows.new.items (AreSegmentsShown name.now offset (partition_named name.now scene.now.evidence.now.partitions))) }
+    ensures { OnOk result (Tells scene.now rows.old.items rows.new.items (AreSegmentsShown name.now offset (partition_named name.now scene.now.partitions.now))) }
 {
-    match partition_named(scene.evidence.partitions(), name) {
+    match partition_named(scene.partitions, name) {
         None => Ok(()),
         Some(partition) => {
             push_end(scene, rows, name, partition)?;

@@ -78,17 +78,12 @@ fn values_under(
 
 /// The first batch that holds a place, if one does.
 fn holder_of(scene: &Scene<'_>, place: &Place) -> Result<Option<Placed>, AllocError>
-    ensures { IfOk result (IsFirst scene.now.evidence.now.partitions place.now.partition (Holding place.now.offset)) }
+    ensures { IfOk result (IsFirst scene.now.partitions.now place.now.partition (Holding place.now.offset)) }
 {
     let wanted = Wanted::Holding {
         offset: place.offset,
     };
-    let found = batches_of(
-        scene.alloc,
-        scene.evidence.partitions(),
-        &place.partition,
-        wanted,
-    )?;
+    let found = batches_of(scene.alloc, scene.partitions, &place.partition, wanted)?;
     Ok(first_of(found.as_slice()))
 }
 
@@ -105,12 +100,12 @@ fn headers_in(alloc: Global, batch: &Batch, number: u64) -> Result<Headers, Allo
 
 /// The headers of the record of a place in the batch that stands there; where no such record reads, there is none.
 fn headers_at(scene: &Scene<'_>, place: &Place, spot: Option<Placed>) -> Result<Headers, AllocError>
-    ensures { IfOk result (λ headers. headers ≡ headers_at scene.now.evidence.now.partitions place.now.partition place.now.offset spot) }
+    ensures { IfOk result (λ headers. headers ≡ headers_at scene.now.partitions.now place.now.partition place.now.offset spot) }
 {
     let Some(placed) = spot else {
         return Ok(Listed::new(Vec::new(scene.alloc)));
     };
-    let partitions = scene.evidence.partitions();
+    let partitions = scene.partitions;
     match batch_of(scene.alloc, partitions, &place.partition, placed)? {
         None => Ok(Listed::new(Vec::new(scene.alloc))),
         Some(batch) => {
@@ -122,7 +117,7 @@ fn headers_at(scene: &Scene<'_>, place: &Place, spot: Option<Placed>) -> Result<
 
 /// The headers of the record of a place, of whose log they needn't be kept.
 fn headers_of(scene: &Scene<'_>, place: &Place) -> Result<Headers, AllocError>
-    ensures { IfOk result (λ headers. AreHeadersOf scene.now.evidence.now.partitions place.now headers) }
+    ensures { IfOk result (λ headers. AreHeadersOf scene.now.partitions.now place.now headers) }
 {
     let spot = holder_of(scene, place)?;
     let headers = headers_at(scene, place, spot)?;
@@ -136,7 +131,7 @@ fn push_header(
     headers: &[Header],
     name: HeaderName,
 ) -> Result<(), AllocError>
-    requires { AreHeadersOf scene.now.evidence.now.partitions place.now headers.now }
+    requires { AreHeadersOf scene.now.partitions.now place.now headers.now }
     ensures { OnOk result (Tells scene.now rows.old.items rows.new.items (IsNext rows.old.items (HeaderRow place.now name (values_of (key_of name) headers.now)))) }
 {
     let values = values_under(scene.alloc, name.key(), headers)?;
@@ -160,7 +155,7 @@ fn push_names(
     place: &Place,
     headers: &[Header],
 ) -> Result<(), AllocError>
-    requires { AreHeadersOf scene.now.evidence.now.partitions place.now headers.now }
+    requires { AreHeadersOf scene.now.partitions.now place.now headers.now }
     ensures { OnOk result (Tells scene.now rows.old.items rows.new.items (StandInOrder (IsHeaderRow place.now headers.now) header_names)) }
 {
     push_header(scene, rows, place, headers, HeaderName::Topic)?;

@@ -19,8 +19,7 @@ use bytes::Bytes;
 use eos_base::PartitionName;
 use eos_claims::Place;
 use eos_sought::{Sought, Wanted};
-use eos_table::{LogFault, MatchFault, MatchFaultKind};
-use eos_verdict::Fault;
+use eos_verdict::{Fault, LogFault, MatchFault, MatchFaultKind};
 use std::alloc::AllocError;
 
 fn log_rows(scene: &Scene<'_>, rows: &mut Vec<Row>, fault: &LogFault) -> Result<(), AllocError>
@@ -123,7 +122,7 @@ fn match_rows(scene: &Scene<'_>, rows: &mut Vec<Row>, fault: &MatchFault) -> Res
 }
 
 fn push_rows(scene: &Scene<'_>, rows: &mut Vec<Row>, fault: &Fault) -> Result<(), AllocError>
-    ensures { OnOk result (Tells scene.now rows.old.items rows.new.items (IsWhole scene.now.evidence.now scene.now.logs.now fault.now)) }
+    ensures { OnOk result (Tells scene.now rows.old.items rows.new.items (IsWhole scene.now.apps.now scene.now.partitions.now scene.now.logs.now fault.now)) }
 {
     match fault {
         Fault::Partition(fault) => {
@@ -151,7 +150,7 @@ fn push_rows(scene: &Scene<'_>, rows: &mut Vec<Row>, fault: &Fault) -> Result<()
 /// Only want of memory.
 pub fn rows_of(scene: &Scene<'_>, fault: &Fault) -> Result<Vec<Row>, AllocError>
     ensures so { IfOk result (λ rows. AreTrue scene.now rows.items) }
-    ensures whole { IfOk result (λ rows. IsWhole scene.now.evidence.now scene.now.logs.now fault.now rows.items) }
+    ensures whole { IfOk result (λ rows. IsWhole scene.now.apps.now scene.now.partitions.now scene.now.logs.now fault.now rows.items) }
 {
     let mut rows = Vec::new(scene.alloc);
     push_rows(scene, &mut rows, fault)?;

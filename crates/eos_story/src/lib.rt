@@ -31,6 +31,6 @@ pub use headers::HeaderName;
 pub use kinds::rows_of;
 pub use names::{is_there, mark, push_at, push_name, push_spot};
 pub use place::place_of;
-pub use row::Row;
+pub use row::{Row, name_in};
 pub use scene::Scene;
 pub use signs::{Told, bearer};

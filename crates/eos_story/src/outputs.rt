@@ -96,9 +96,9 @@ fn visible_rows(
 // ---- phase 5
 
 fn first_group(scene: &Scene<'_>) -> Result<Option<Bytes>, AllocError>
-    ensures { IfOk result (λ group. group ≡ first_group scene.now.evidence.now.spec.apps) }
+    ensures { IfOk result (λ group. group ≡ first_group scene.now.apps.now) }
 {
-    let apps = scene.evidence.spec().apps().as_slice();
+    let apps = scene.apps;
     if apps.is_empty() {
         return Ok(None);
     }
@@ -108,7 +108,7 @@ fn first_group(scene: &Scene<'_>) -> Result<Option<Bytes>, AllocError>
 
 /// The group that is named, or else that of the first application.
 fn group_bytes(scene: &Scene<'_>, group: &Option<GroupId>) -> Result<Option<Bytes>, AllocError>
-    ensures { IfOk result (λ meant. meant ≡ group_meant scene.now.evidence.now.spec.apps group.now) }
+    ensures { IfOk result (λ meant. meant ≡ group_meant scene.now.apps.now group.now) }
 {
     match group {
         Some(group) => {
@@ -198,7 +198,7 @@ fn output_rows(
     group: &Option<GroupId>,
     fault: &OutputFault,
 ) -> Result<(), AllocError>
-    ensures { OnOk result (TellsEach scene.now rows.old.items rows.new.items (of_output scene.now.evidence.now.spec.apps scene.now.logs.now group.now fault.now)) }
+    ensures { OnOk result (TellsEach scene.now rows.old.items rows.new.items (of_output scene.now.apps.now scene.now.logs.now group.now fault.now)) }
 {
     let input = &fault.source;
     let at = copy_place(input)?;
@@ -219,7 +219,7 @@ pub(crate) fn lineage_rows(
     rows: &mut Vec<Row>,
     fault: &LineageFault,
 ) -> Result<(), AllocError>
-    ensures { OnOk result (TellsEach scene.now rows.old.items rows.new.items (of_lineage scene.now.evidence.now.spec.apps scene.now.logs.now fault.now)) }
+    ensures { OnOk result (TellsEach scene.now rows.old.items rows.new.items (of_lineage scene.now.apps.now scene.now.logs.now fault.now)) }
 {
     match fault {
         LineageFault::Record(fault) => visible_rows(scene, rows, fault),

@@ -78,7 +78,7 @@ fn pair_rows(
     producer: i64,
     offset: u64,
 ) -> Result<(), AllocError>
-    ensures { OnOk result (Tells scene.now rows.old.items rows.new.items (IsPairTold scene.now.evidence.now.partitions scene.now.logs.now name.now producer offset)) }
+    ensures { OnOk result (Tells scene.now rows.old.items rows.new.items (IsPairTold scene.now.partitions.now scene.now.logs.now name.now producer offset)) }
 {
     let before = push_touches(scene, rows, name, producer, offset)?;
     push_ending(scene, rows, producer, before)?;
@@ -89,10 +89,10 @@ fn pair_rows(
 
 /// The offset of the last end marker of a producer id in a partition; 0 where there is none.
 fn last_end(scene: &Scene<'_>, name: &PartitionName, producer: i64) -> Result<u64, AllocError>
-    ensures { IfOk result (λ end. (markers : List Batch) × AreBatchesOf scene.now.evidence.now.partitions name.now (Ending producer 0) markers × (end ≡ last_end markers)) }
+    ensures { IfOk result (λ end. (markers : List Batch) × AreBatchesOf scene.now.partitions.now name.now (Ending producer 0) markers × (end ≡ last_end markers)) }
 {
     let wanted = Wanted::Ending { producer, from: 0 };
-    let markers = batches_of(scene.alloc, scene.evidence.partitions(), name, wanted)?;
+    let markers = batches_of(scene.alloc, scene.partitions, name, wanted)?;
     let markers = markers.as_slice();
     let last = markers.len().saturating_sub(1);
     if last < markers.len() {
@@ -125,7 +125,7 @@ fn open_rows(
     name: &PartitionName,
     producer: i64,
 ) -> Result<(), AllocError>
-    ensures { OnOk result (Tells scene.now rows.old.items rows.new.items (IsOpenTold scene.now.evidence.now.partitions scene.now.logs.now name.now producer)) }
+    ensures { OnOk result (Tells scene.now rows.old.items rows.new.items (IsOpenTold scene.now.partitions.now scene.now.logs.now name.now producer)) }
 {
     let from = last_end(scene, name, producer)?;
     let first = push_first(scene, rows, name, Wanted::Open { producer, from })?;
@@ -139,7 +139,7 @@ pub(crate) fn partition_rows(
     rows: &mut Vec<Row>,
     fault: &PartitionFault,
 ) -> Result<(), AllocError>
-    ensures { OnOk result (Tells scene.now rows.old.items rows.new.items (λ told. IsPartitionTold scene.now.evidence.now.partitions scene.now.logs.now
+    ensures { OnOk result (Tells scene.now rows.old.items rows.new.items (λ told. IsPartitionTold scene.now.partitions.now scene.now.logs.now
         (record { topic = fault.now.topic; partition = fault.now.partition }) fault.now.offset told fault.now.kind)) }
 {
     let name = PartitionName {

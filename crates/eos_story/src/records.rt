@@ -61,12 +61,7 @@ pub(crate) fn push_find(
     let wanted = Wanted::Holding {
         offset: find.item.offset,
     };
-    let found = batches_of(
-        scene.alloc,
-        scene.evidence.partitions(),
-        &find.partition,
-        wanted,
-    )?;
+    let found = batches_of(scene.alloc, scene.partitions, &find.partition, wanted)?;
     let spot = first_of(found.as_slice());
     let sought = copy_sought(sought)?;
     let find = copy_find(find)?;

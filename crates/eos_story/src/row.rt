@@ -1,6 +1,8 @@
 //! A row of a story.
 
-ghost use Rattle.std.specs.Prelude.{OnOk};
+ghost use Rattle.std.specs.Option.{option_copied};
+ghost use Rattle.std.specs.Prelude.{◌≡◌, OnOk};
+ghost use Rattle.eos_story.specs.Names.{name_in};
 ghost use Rattle.eos_story.specs.Rows.{IsTrue, AreTrue};
 ghost use Rattle.eos_story.specs.steps.Telling.{IsNext};
 
@@ -81,9 +83,26 @@ pub enum Row {
     },
 }
 
+/// The partition that a row names, in which what it says is looked up; none where it is of no partition.
+pub fn name_in(row: &Row) -> Option<&PartitionName>
+    ensures { option_copied result ≡ name_in row.now }
+{
+    match row {
+        Row::Record { find, .. } => Some(&find.partition),
+        Row::Batch { partition, .. }
+        | Row::First { partition, .. }
+        | Row::MoreBatches { partition, .. }
+        | Row::Segment { partition, .. }
+        | Row::MoreSegments { partition, .. }
+        | Row::End { partition, .. } => Some(partition),
+        Row::Header { place, .. } => Some(&place.partition),
+        Row::NoRecord { .. } | Row::MoreRecords { .. } | Row::MorePartitions { .. } => None,
+    }
+}
+
 /// Puts a row at the end that says what is so.
 pub(crate) fn add_row(scene: &Scene<'_>, rows: &mut Vec<Row>, row: Row) -> Result<(), AllocError>
-    requires { IsTrue scene.now.evidence.now.partitions scene.now.logs.now row }
+    requires { IsTrue scene.now.partitions.now scene.now.logs.now row }
     ensures are { AreTrue scene.now rows.old.items → OnOk result (AreTrue scene.now rows.new.items) }
     ensures next { OnOk result (IsNext rows.old.items row rows.new.items) }
 {

@@ -1,13 +1,14 @@
 //! What a story is told of.
 
-use eos_evidence::Evidence;
+use eos_evidence::{App, Partition};
 use eos_kept::Part;
 use std::alloc::Global;
 
-/// An evidence and its logs, as the verdict sees them.
+/// The applications, partitions with their segments, and the logs as the verdict sees them.
 #[derive(Clone, Copy)]
 pub struct Scene<'a> {
     pub alloc: Global,
-    pub evidence: &'a Evidence,
+    pub apps: &'a [App],
+    pub partitions: &'a [Partition],
     pub logs: &'a [Part],
 }

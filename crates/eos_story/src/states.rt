@@ -16,8 +16,8 @@ use crate::slices::from_on;
 use bytes::Bytes;
 use eos_claims::Place;
 use eos_sought::{Epochs, Find, Placed, Sought, find_records, state_of};
-use eos_table::LogFaultKind;
 use eos_txnlog::TxnValue;
+use eos_verdict::LogFaultKind;
 use std::alloc::{AllocError, Global};
 
 // ---- of a producer id

@@ -338,9 +338,9 @@ what was written in one folder, put FILE there as evidence.json, and check that.
 
 That a fold was made of the log of its name, and that this log is whole, is
 yours to know. `check` refuses a fold that was made for other roles or other
-source topics than those of its manifest. `explain` and `init` read records,
-which a fold doesn't have: they need the logs; and to list all faults of a
-partition by itself, so does `check --all`.
+source topics than those of its manifest. A fold has no records: `init` needs
+the logs, `explain` those of the partitions that its story names, and both it
+and `check --all` those of a partition that has a fault by itself.
 
 With --verify FOLDER nothing is written. Each fold in FOLDER, which has its
 evidence.json, is compared with the log TOPIC-N/BASE.log in the first of the

@@ -53,10 +53,11 @@ fn tellings_of(
         path: folder,
         watch: &progress,
     };
-    let stories = texts_of(
-        alloc,
-        first_stories(alloc, threads, read, words.workers, most),
-    )?;
+    let first = eos_explaining::First {
+        workers: words.workers,
+        most,
+    };
+    let stories = texts_of(alloc, first_stories(alloc, threads, read, &first))?;
     let seen = eos_drawing::Folder {
         disk: &disk,
         path: folder,

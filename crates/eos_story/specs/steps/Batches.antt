@@ -9,7 +9,7 @@ use Rattle.eos_story.specs.declared.scene.Scene.{Scene}
 
 -- the batches are those that are wanted
 abbrev pub AreFound : Scene → Found → Type 0
-AreFound scene found = AreBatchesOf scene.evidence.now.partitions found.name.now found.wanted found.batches.now
+AreFound scene found = AreBatchesOf scene.partitions.now found.name.now found.wanted found.batches.now
 
 -- how many there are, where there are more
 abbrev pub AreMoreTold : Found → ℕ → List Row → Type 0

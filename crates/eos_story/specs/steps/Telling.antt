@@ -23,7 +23,7 @@ pub record TellsEach (scene : Scene) (before after : List Row) (questions : List
   pub added : List Row
   pub grown : after ≡ before ++ added
   pub are : AreTrue scene before → AreTrue scene after
-  pub answers : AnswersEach scene.evidence.now.partitions scene.logs.now after questions
+  pub answers : AnswersEach scene.partitions.now scene.logs.now after questions
 
 -- one row more
 abbrev pub IsNext : List Row → Row → List Row → Type 0

@@ -9,13 +9,11 @@ use Rattle.eos_source_check.proofs.KeptNotes.{kept_in_order, whole_all}
 use Rattle.eos_explaining.proofs.answer.noted.Goals as goal
 
 pub returns : goal.returns
-returns c =
-    let e = c.args.evidence.now in
-    let j = c.requires in
+returns c = λ e spec j.
     let logs = c.args.judged.now.logs in
     let found = c.in_ok-found.found.items in
     let order = subst AreInOrder (sym j.logs.parts) (kept_in_order e j.logs.whole j.is_evidence j.logs.of) in
-    let by_spec = subst (λ (s : SpecFields). AreAllNotesBy s logs.parts.items c.as_slice-epochs.result.now (is_some (first_of logs.faults.items)) found) c.spec.ensures.value (c.in_ok-found.ensures order) in
+    let by_spec = subst (λ (s : SpecFields). AreAllNotesBy s logs.parts.items c.as_slice-epochs.result.now (is_some (first_of logs.faults.items)) found) (sym spec) (c.in_ok-found.ensures order) in
     let by_epochs = subst (λ (es : List (List EpochEntry)). AreAllNotesBy e.spec logs.parts.items es (is_some (first_of logs.faults.items)) found) c.as_slice-epochs.ensures.value by_spec in
     let by_kept = subst (λ (ls : List PartLog). AreAllNotesBy e.spec ls c.args.judged.now.epochs.items (is_some (first_of logs.faults.items)) found) j.logs.parts by_epochs in
     whole_all e j.logs.whole logs.faults.items c.args.judged.now.epochs.items found j.logs.of j.logs.faults j.epochs by_kept

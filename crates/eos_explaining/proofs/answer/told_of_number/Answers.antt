@@ -1,40 +1,37 @@
-use Rattle.std.proofs.Common.{◌≡◌, ◌-◌, ◌<◌, ◌∙◌, List, Some, length, subst, refl, arith, slice_get}
+use Rattle.std.proofs.Common.{◌≡◌, ◌-◌, ◌∙◌, List, Some, length, ap, subst, refl, sym, arith, slice_get}
 use Rattle.std.proofs.lemmas.Option.{slice_get_read}
+use Rattle.eos_source.specs.Said.{known_by}
 use Rattle.eos_verdict.specs.declared.verdict.Verdict.{Verdict}
-use Rattle.eos_explaining.proofs.FindingsTold.{told_of, one_held, held_is}
+use Rattle.eos_explaining.specs.Explaining.{AreSeen}
+use Rattle.eos_explaining.proofs.Answered.{one_held, held_is, story_by}
 use Rattle.eos_explaining.proofs.NamedFaults.{named_at}
 use Rattle.eos_explaining.proofs.answer.told_of_number.Goals as goal
 
-pub returns : goal.returns
-returns c =
-    let e = c.args.scene.now.evidence.now in
-    let number = c.args.number in
-    let found = c.requires.found in
-    let told = c.args.found.now.told.items in
-    let v = c.index.result.now in
-    let one : 0 < length told = omega (arith, one_held e number c.args.found.now found c.requires.first c.requires.inside) in
-    let at = slice_get_read told (length told) 0 v refl one c.index.ensures in
-    let seen = c.requires.seen in
-    record {
-      logs = seen.logs;
-      told = found.told;
-      are = told_of e found.logs seen.logs found.told found.are seen.of;
-      before = number - 1;
-      numbered = omega (arith, c.requires.first);
-      verdict = v;
-      at = held_is e number c.args.found.now found v at;
-      seen = c.args.scene.now.logs.now;
-      sees = seen.sees;
-      story = c.in_ok-story.ensures found.told (c.as_str.ensures.value ∙ found.line);
-    }
-
 pub story_of-requires-clause-names : goal.story_of-requires-clause-names
-story_of-requires-clause-names c =
-    let e = c.args.scene.now.evidence.now in
-    let number = c.args.number in
-    let found = c.requires.found in
-    let told = c.args.found.now.told.items in
-    let v = c.index.result.now in
-    let one : 0 < length told = omega (arith, one_held e number c.args.found.now found c.requires.first c.requires.inside) in
-    let at = slice_get_read told (length told) 0 v refl one c.index.ensures in
-    named_at found.are.faults (number - 1) v (subst (λ (vs : List Verdict). slice_get vs (number - 1) ≡ Some v) found.are.named (held_is e number c.args.found.now found v at))
+story_of-requires-clause-names g c κs within =
+    let source = c.args.pieces.now.source.now in
+    let known = known_by (g.S.Source.said source) (g.S.Source.is_log source) in
+    let shape = c.args.pieces.now.shape.now in
+    let number = c.args.asked.now.number in
+    let found = c.args.found.now in
+    let f = c.requires.found in
+    let told = c.as_slice-told.result.now in
+    let v = c.index-told-0.result in
+    let many : length told ≡ 1 = ap length c.as_slice-told.ensures.value ∙ one_held known shape c.args.judged number found f c.requires.first c.requires.inside in
+    let at : slice_get found.told.items 0 ≡ Some v = subst (λ (vs : List Verdict). slice_get vs 0 ≡ Some v) c.as_slice-told.ensures.value (slice_get_read told (length told) 0 v refl (omega (arith, many)) c.index-told-0.is) in
+    named_at f.faults (number - 1) v (held_is known shape c.args.judged number found v f at)
+
+pub returns-clause-told : goal.returns-clause-told
+returns-clause-told g c =
+    let source = c.args.pieces.now.source.now in
+    let known = known_by (g.S.Source.said source) (g.S.Source.is_log source) in
+    let shape = c.args.pieces.now.shape.now in
+    let number = c.args.asked.now.number in
+    let found = c.args.found.now in
+    let f = c.requires.found in
+    let told = c.as_slice-told.result.now in
+    let v = c.index-told-0.result in
+    let many : length told ≡ 1 = ap length c.as_slice-told.ensures.value ∙ one_held known shape c.args.judged number found f c.requires.first c.requires.inside in
+    let at : slice_get found.told.items 0 ≡ Some v = subst (λ (vs : List Verdict). slice_get vs 0 ≡ Some v) c.as_slice-told.ensures.value (slice_get_read told (length told) 0 v refl (omega (arith, many)) c.index-told-0.is) in
+    story_by known shape c.args.judged number found c.seen_logs.new.read.items c.story_of.new.read.items (record { folder = c.args.asked.now.folder; counts = c.as_str.result; notes = c.as_slice.result; logs = c.as_slice-2.result }) v _ f c.requires.first at c.as_slice.ensures.value c.as_str.ensures.value c.in_ok-story.ensures.read c.in_ok-story.ensures.kept
+    (λ e logs is spec has of kept. subst (AreSeen e logs) (sym c.as_slice-2.ensures.value) (c.in_ok-parts.ensures.seen e logs is spec has of (c.parts_of.ensures ∙ kept))) c.in_ok-story.ensures.told

@@ -1,9 +1,38 @@
 -- Which refusal of the folder it is.
+use Rattle.std.proofs.Common.{true}
 use Rattle.std.proofs.lemmas.Result.{err_from_is_err_and}
-use Rattle.eos_explaining.proofs.FirstRefused.{first_of_whole}
+use Rattle.eos_source.proofs.FirstRefusals.{of_manifest, of_piece, of_listing}
+use Rattle.eos_explaining.specs.steps.Tellings.{IsAnswer}
+use Rattle.eos_explaining.specs.Folders.{number_of}
+use Rattle.eos_explaining.proofs.FolderAnswers.{folder_of}
 use Rattle.eos_explaining.proofs.folder.answer_folder.Goals as goal
 
-pub returns-in_err-evidence-clause-first : goal.returns-in_err-evidence-clause-first
-returns-in_err-evidence-clause-first g c =
+pub returns-clause-answer : goal.returns-clause-answer
+returns-clause-answer g c =
+    let folder = c.args.folder in
+    let shape = c.in_ok-shape.shape in
+    folder_of (g.D.Disk.holds folder.disk.now) folder.path.now shape.evidence shape.forms.items
+    (λ e. IsAnswer folder.path.now e (number_of c.args.which.now.fault) c.in_ok-answer.answer) (c.in_ok-shape.ensures.all c.in_ok-shape-2.was) c.in_ok-answer.ensures.answer
+
+pub returns-in_err-shape-clause-first : goal.returns-in_err-shape-clause-first
+returns-in_err-shape-clause-first g c =
     let p = err_from_is_err_and c.from_residual.result c.from_residual.ensures.1 in
-    rw (p.1, p.2) (first_of_whole (g.D.Disk.holds c.args.folder.disk.now) c.args.folder.path.now c.in_err-evidence.field-0.0 c.in_err-evidence.ensures.first)
+    let folder = c.args.folder in
+    rw (p.1, p.2) (of_manifest (g.D.Disk.holds folder.disk.now) folder.path.now true c.in_err-shape.field-0.0 c.in_err-shape.ensures.refused)
+
+pub returns-in_err-answer-clause-first : goal.returns-in_err-answer-clause-first
+returns-in_err-answer-clause-first g c =
+    let p = err_from_is_err_and c.from_residual-in_err-answer.result c.from_residual-in_err-answer.ensures.1 in
+    let folder = c.args.folder in
+    let shape = c.in_ok-shape.shape in
+    rw (p.1, p.2) (of_piece (g.D.Disk.holds folder.disk.now) folder.path.now true shape.evidence shape.forms.items shape.listed c.in_err-answer.field-0.0
+    c.in_ok-shape.ensures.all c.in_ok-shape.ensures.front c.in_err-answer.ensures.refused)
+
+pub returns-in_err-shape-2-clause-first : goal.returns-in_err-shape-2-clause-first
+returns-in_err-shape-2-clause-first g c =
+    let p = err_from_is_err_and c.from_residual-in_err-shape-2.result c.from_residual-in_err-shape-2.ensures.1 in
+    let folder = c.args.folder in
+    let shape = c.in_ok-shape.shape in
+    let why = c.in_err-shape-2.field-0.0 in
+    rw (p.1, p.2) (of_listing (g.D.Disk.holds folder.disk.now) folder.path.now true shape.evidence shape.forms.items why
+    (c.in_ok-shape.ensures.front why c.in_err-shape-2.was) c.in_ok-answer.ensures.opened)

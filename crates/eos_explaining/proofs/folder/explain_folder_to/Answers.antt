@@ -1,4 +1,4 @@
--- What was told of the evidence that was read is true of the one that stands there.
+-- What is told of what the folder holds is true of the evidence that stands there.
 use Rattle.eos_explaining.proofs.FolderAnswers.{told_of, front_of, known_told, known_front}
 use Rattle.eos_explaining.proofs.folder.explain_folder_to.Goals as goal
 

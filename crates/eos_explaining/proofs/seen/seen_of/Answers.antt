@@ -1,15 +1,16 @@
-use Rattle.std.proofs.Common.{◌∙◌, Bor, Option, inl, inr, subst}
-use Rattle.std.specs.Prelude.{IfSome}
-use Rattle.eos_check.specs.WholeLogs.{AreWholeLogs}
-use Rattle.eos_kept.specs.declared.logs.Logs.{Logs}
+use Rattle.std.proofs.Common.{true, false, ap, ◌∙◌}
+use Rattle.eos_evidence.specs.SpecFields.{SpecFields}
+use Rattle.eos_explaining.proofs.SeenLogs.{judged_as, seen_kept, seen_whole}
 use Rattle.eos_explaining.proofs.seen.seen_of.Goals as goal
 
-pub returns-in-None : goal.returns-in-None
-returns-in-None c =
-    let kept = c.requires.judged.logs in
-    record { logs = kept.whole; of = kept.of; sees = inr (c.as_slice.ensures.value ∙ kept.parts) }
+pub returns-then-is_judged-clause-seen : goal.returns-then-is_judged-clause-seen
+returns-then-is_judged-clause-seen g c = λ e log is spec has i kept.
+    let apps = c.as_slice-apps.ensures ∙ (c.apps.ensures.value ∙ ap (λ (s : SpecFields). s.apps) c.spec.ensures.value) in
+    let so = judged_as c.as_slice-apps.result.now c.args.pieces.now.shape.now.spec.apps e.spec.apps c.as_slice.result.now c.args.part.topic true apps (ap (λ (s : SpecFields). s.apps) spec) (c.as_slice.ensures ∙ c.topic.ensures) c.if-is_judged.ensures in
+    seen_kept e.spec.apps c.args.part log kept so
 
-pub returns-in-Some : goal.returns-in-Some
-returns-in-Some c =
-    let whole : AreWholeLogs c.args._evidence.now.partitions c.in-Some.logs.now = subst (λ (o : Option (Bor Logs)). IfSome o (λ logs. AreWholeLogs c.args._evidence.now.partitions logs.now)) c.in-Some.is c.requires.whole in
-    record { logs = c.in-Some.logs.now.parts.items; of = whole.parts; sees = inl c.as_slice-in-Some.ensures.value }
+pub returns-clause-seen : goal.returns-clause-seen
+returns-clause-seen g c = λ e log is spec has i kept.
+    let apps = c.as_slice-apps.ensures ∙ (c.apps.ensures.value ∙ ap (λ (s : SpecFields). s.apps) c.spec.ensures.value) in
+    let so = judged_as c.as_slice-apps.result.now c.args.pieces.now.shape.now.spec.apps e.spec.apps c.as_slice.result.now c.args.part.topic false apps (ap (λ (s : SpecFields). s.apps) spec) (c.as_slice.ensures ∙ c.topic.ensures) c.if-is_judged.ensures in
+    seen_whole e.spec.apps c.args.part log c.in_ok-whole.whole kept so (c.in_ok-whole.ensures.seen e log is spec has i)

@@ -1,15 +1,45 @@
-use Rattle.std.proofs.Common.{map, string_bytes}
+-- Which refusal of the folder it is, and what is so of the evidence that stands there.
+use Rattle.std.proofs.Common.{true, map, string_bytes}
 use Rattle.std.proofs.lemmas.Result.{err_from_is_err_and}
-use Rattle.eos_explaining.proofs.FirstRefused.{first_of_whole}
-use Rattle.eos_explaining.proofs.StoriesMore.{known_stories}
+use Rattle.eos_source.proofs.FirstRefusals.{of_manifest, of_piece, of_listing}
+use Rattle.eos_explaining.specs.FirstStories.{AreFirstStories}
+use Rattle.eos_explaining.proofs.FolderAnswers.{folder_of, known_of}
 use Rattle.eos_explaining.proofs.stories.first_stories.Goals as goal
+
+pub returns-clause-some : goal.returns-clause-some
+returns-clause-some g c =
+    let folder = c.args.folder in
+    let shape = c.in_ok-shape.shape in
+    folder_of (g.D.Disk.holds folder.disk.now) folder.path.now shape.evidence shape.forms.items
+    (λ e. AreFirstStories folder.path.now e c.args.first.now.most (map string_bytes c.in_ok-texts.texts.items)) (c.in_ok-shape.ensures.all c.in_ok-shape-2.was) c.in_ok-texts.ensures.told
 
 pub returns-clause-known : goal.returns-clause-known
 returns-clause-known g c e known at =
-    known_stories (g.D.Disk.holds c.args.folder.disk.now) c.args.folder.path.now c.args.most (map string_bytes c.in_ok-texts.texts.items) e
-    (c.in_ok-evidence.evidence, c.in_ok-evidence.ensures.whole, c.in_ok-texts.ensures) known at
+    let folder = c.args.folder in
+    let shape = c.in_ok-shape.shape in
+    known_of (g.D.Disk.holds folder.disk.now) folder.path.now (λ x. AreFirstStories folder.path.now x c.args.first.now.most (map string_bytes c.in_ok-texts.texts.items)) e known at
+    (folder_of (g.D.Disk.holds folder.disk.now) folder.path.now shape.evidence shape.forms.items
+    (λ x. AreFirstStories folder.path.now x c.args.first.now.most (map string_bytes c.in_ok-texts.texts.items)) (c.in_ok-shape.ensures.all c.in_ok-shape-2.was) c.in_ok-texts.ensures.told)
 
-pub returns-in_err-evidence-clause-first : goal.returns-in_err-evidence-clause-first
-returns-in_err-evidence-clause-first g c =
+pub returns-in_err-shape-clause-first : goal.returns-in_err-shape-clause-first
+returns-in_err-shape-clause-first g c =
     let p = err_from_is_err_and c.from_residual.result c.from_residual.ensures.1 in
-    rw (p.1, p.2) (first_of_whole (g.D.Disk.holds c.args.folder.disk.now) c.args.folder.path.now c.in_err-evidence.field-0.0 c.in_err-evidence.ensures.first)
+    let folder = c.args.folder in
+    rw (p.1, p.2) (of_manifest (g.D.Disk.holds folder.disk.now) folder.path.now true c.in_err-shape.field-0.0 c.in_err-shape.ensures.refused)
+
+pub returns-in_err-texts-clause-first : goal.returns-in_err-texts-clause-first
+returns-in_err-texts-clause-first g c =
+    let p = err_from_is_err_and c.from_residual-in_err-texts.result c.from_residual-in_err-texts.ensures.1 in
+    let folder = c.args.folder in
+    let shape = c.in_ok-shape.shape in
+    rw (p.1, p.2) (of_piece (g.D.Disk.holds folder.disk.now) folder.path.now true shape.evidence shape.forms.items shape.listed c.in_err-texts.field-0.0
+    c.in_ok-shape.ensures.all c.in_ok-shape.ensures.front c.in_err-texts.ensures.refused)
+
+pub returns-in_err-shape-2-clause-first : goal.returns-in_err-shape-2-clause-first
+returns-in_err-shape-2-clause-first g c =
+    let p = err_from_is_err_and c.from_residual-in_err-shape-2.result c.from_residual-in_err-shape-2.ensures.1 in
+    let folder = c.args.folder in
+    let shape = c.in_ok-shape.shape in
+    let why = c.in_err-shape-2.field-0.0 in
+    rw (p.1, p.2) (of_listing (g.D.Disk.holds folder.disk.now) folder.path.now true shape.evidence shape.forms.items why
+    (c.in_ok-shape.ensures.front why c.in_err-shape-2.was) c.in_ok-texts.ensures.opened)

@@ -1,28 +1,25 @@
-use Rattle.std.proofs.Common.{◌∙◌, List, map, take, subst, string_bytes, ap}
+use Rattle.std.proofs.Common.{◌∙◌, List, take, drop, map, sym, subst, string_bytes}
 use Rattle.std.proofs.lemmas.List.{take-map}
+use Rattle.eos_source.specs.Said.{known_by}
 use Rattle.eos_verdict.specs.declared.verdict.Verdict.{Verdict}
 use Rattle.eos_verdict.specs.declared.verdict.Verdict.TheVariants.{No}
-use Rattle.eos_explaining.specs.FirstStories.{AreStoriesOf}
-use Rattle.eos_explaining.proofs.FindingsTold.{told_of}
+use Rattle.eos_explaining.specs.declared.story.About.{About}
+use Rattle.eos_explaining.specs.Explaining.{AreSeen}
+use Rattle.eos_explaining.specs.steps.Again.{AreToldBy}
+use Rattle.eos_explaining.proofs.Answered.{stories_by}
 use Rattle.eos_explaining.proofs.stories.of_findings.Goals as goal
 
-pub returns : goal.returns
-returns c =
-    let scene = c.args.scene.now in
-    let found = c.requires.found in
-    let seen = c.requires.seen in
-    let texts = map string_bytes c.in_ok-texts.texts.items in
-    let held = c.as_slice-2.ensures.value ∙ found.held in
-    record {
-      logs = seen.logs;
-      told = found.told;
-      are = told_of scene.evidence.now found.logs seen.logs found.told found.are seen.of;
-      seen = scene.logs.now;
-      sees = seen.sees;
-      each = subst (λ (vs : List Verdict). AreStoriesOf c.args.folder.now scene.evidence.now scene.logs.now found.told vs texts) held (c.in_ok-texts.ensures found.told (c.as_str.ensures.value ∙ found.line));
-    }
-
 pub told_each-requires-clause-faults : goal.told_each-requires-clause-faults
-told_each-requires-clause-faults c =
-    let found = c.requires.found in
-    (take c.args.most found.are.faults, c.as_slice-2.ensures.value ∙ (found.held ∙ (ap (take c.args.most) found.are.named ∙ take-map No c.args.most found.are.faults)))
+told_each-requires-clause-faults g c κs within =
+    let f = c.requires.1 in
+    (take c.requires.0 f.faults, c.as_slice-told.ensures.value ∙ (f.held ∙ take-map No c.requires.0 f.faults))
+
+pub returns-clause-told : goal.returns-clause-told
+returns-clause-told g c = λ most f.
+    let source = c.args.pieces.now.source.now in
+    let known = known_by (g.S.Source.said source) (g.S.Source.is_log source) in
+    let shape = c.args.pieces.now.shape.now in
+    let about : About = record { folder = c.args.folder; counts = c.as_str.result; notes = c.as_slice.result; logs = c.as_slice-2.result } in
+    stories_by known shape c.args.judged most c.args.found.now c.seen_logs.new.read.items c.told_each.new.read.items about _ f c.as_slice.ensures.value c.as_str.ensures.value c.in_ok-texts.ensures.read c.in_ok-texts.ensures.kept
+    (λ e logs is spec has of kept. subst (AreSeen e logs) (sym c.as_slice-2.ensures.value) (c.in_ok-parts.ensures.seen e logs is spec has of (c.parts_of.ensures ∙ kept)))
+    (subst (λ (vs : List Verdict). AreToldBy shape c.told_each.new.read.items about vs (map string_bytes c.in_ok-texts.texts.items)) c.as_slice-told.ensures.value c.in_ok-texts.ensures.told)

@@ -1,8 +1,11 @@
-use Rattle.std.proofs.Common.{◌≡◌, List, map, take, string_bytes}
-use Rattle.eos_verdict.specs.declared.verdict.Verdict.{Verdict}
-use Rattle.eos_explaining.specs.FirstStories.{AreStoriesOf}
-use Rattle.eos_verdict.specs.Counts.{counts_line}
+use Rattle.std.proofs.Common.{map, take, string_bytes}
+use Rattle.eos_source.specs.Said.{known_by}
+use Rattle.eos_explaining.specs.Folders.{AreRead}
+use Rattle.eos_explaining.specs.steps.Again.{AreKept, AreToldBy}
 use Rattle.eos_explaining.proofs.stories.told_each.Given as goal
 
 abbrev pub invariant-loop-i : goal.invariant-loop-i
-invariant-loop-i l = (all : List Verdict) → l.about.counts.now ≡ counts_line all → AreStoriesOf l.about.folder.now l.scene.evidence.now l.scene.logs.now all (take l.i l.told) (map string_bytes l.texts.items)
+invariant-loop-i g l =
+    AreRead (known_by (g.S.Source.said l.pieces.source.now) (g.S.Source.is_log l.pieces.source.now)) l.pieces.shape.now.partitions l.read.items
+    × AreKept l.fn.read.items l.read.items
+    × AreToldBy l.pieces.shape.now l.read.items l.about (take l.i l.told) (map string_bytes l.texts.items)

@@ -1,6 +1,5 @@
-use Rattle.std.proofs.Common.{◌≡◌, List, ap, sym, subst, ◌∙◌, take}
+use Rattle.std.proofs.Common.{List, ap, sym, subst, ◌∙◌, take}
 use Rattle.std.proofs.lemmas.List.{take_min}
-use Rattle.eos_evidence.specs.declared.partition.Partition.{Partition}
 use Rattle.eos_sought.specs.declared.partition.Placed.{Placed}
 use Rattle.eos_sought.specs.Partitions.{AreBatchesOf}
 use Rattle.eos_story.proofs.BatchesTold.{all_taken, batches_told}
@@ -13,5 +12,5 @@ pub returns : goal.returns
 returns c =
     let name = c.args.name.now in
     let found : List Placed = c.as_slice-batches.result.now in
-    let are = subst (λ (ps : List Partition). AreBatchesOf ps name c.args.wanted found) c.partitions.ensures.value (subst (λ (xs : List Placed). AreBatchesOf c.partitions.result.now name c.args.wanted xs) (sym c.as_slice-batches.ensures.value) c.in_ok-found.ensures) in
+    let are = subst (λ (xs : List Placed). AreBatchesOf c.args.scene.now.partitions.now name c.args.wanted xs) (sym c.as_slice-batches.ensures.value) c.in_ok-found.ensures in
     batches_told name c.args.wanted c.args.most found (take c.min.result found) are c.in_ok-push_each.ensures (ap (λ n. take n found) c.min.ensures ∙ take_min c.args.most found) c.in_ok-push_more.ensures

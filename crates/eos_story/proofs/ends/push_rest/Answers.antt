@@ -1,8 +1,6 @@
-use Rattle.std.proofs.Common.{Some, Option, sym, subst}
-use Rattle.eos_evidence.specs.declared.partition.Partition.{Partition}
 use Rattle.eos_story.proofs.EndsTold.{segments_told}
 use Rattle.eos_story.proofs.ends.push_rest.Goals as goal
 
 pub returns-in_ok-push_segments-in-Some : goal.returns-in_ok-push_segments-in-Some
 returns-in_ok-push_segments-in-Some c =
-    segments_told c.args.name.now c.args.offset c.in-Some.partition.now c.partitions.result.now c.partitions.ensures.value c.in-Some.ensures.some c.in_ok-push_end-in-Some.ensures c.in_ok-push_segments-in-Some.ensures
+    segments_told c.args.name.now c.args.offset c.in-Some.partition.now c.in-Some.ensures.some c.in_ok-push_end-in-Some.ensures c.in_ok-push_segments-in-Some.ensures

@@ -9,7 +9,7 @@ pub returns : goal.returns
 returns c =
     let logs = c.args.scene.now.logs.now in
     let input = c.args.fault.now.source in
-    let meant = group_meant c.args.scene.now.evidence.now.spec.apps c.args.group.now in
+    let meant = group_meant c.args.scene.now.apps.now c.args.group.now in
     let at = each_as (Records (At input) 1 ∷ []) (ap (λ (p : Place). Records (At p) 1 ∷ []) c.in_ok-at.ensures) c.in_ok-push_records.ensures in
     let claims = each_as (Claims (Claiming input) 3 ∷ []) (ap (λ (p : Place). Claims (Claiming p) 3 ∷ []) c.in_ok-claimed.ensures) c.in_ok-push_claims.ensures in
     let commits = each_as (commits_past logs meant input) (ap (λ (g : Option (List ℕ)). commits_past logs g input) c.in_ok-meant.ensures) c.in_ok-push_commits.ensures in

@@ -1,0 +1,128 @@
+-- What is told of what was judged is so of each evidence of which it was judged.
+use Rattle.std.proofs.Common.{◌≡◌, ◌<◌, ◌≤◌, ◌-◌, ◌∙◌, ℕ, List, [], ◌∷◌, length, map, take, slice_get, Some, refl, sym, ap, subst, arith, string_bytes}
+use Rattle.std.specs.Prelude.{◌⊎◌}
+use Rattle.std.proofs.lemmas.List.{length-map}
+use Rattle.eos_commits.specs.EvidenceLogs.{AreLogsOf}
+use Rattle.eos_evidence.specs.declared.partition.Partition.{Partition}
+use Rattle.eos_evidence.specs.Evidence.{EvidenceParts, IsEvidence}
+use Rattle.eos_fold.specs.Parts.{PartLog}
+use Rattle.eos_notes.specs.Notes.{AreAllNotes}
+use Rattle.eos_reading.specs.Wanted.{wanted_logs}
+use Rattle.eos_source.specs.Said.{Known}
+use Rattle.eos_source_check.specs.Again.{AreThere}
+use Rattle.eos_source_check.specs.Judged.{IsJudgedFor, IsJudgedOf}
+use Rattle.eos_source_check.specs.declared.judged.Judged.{Judged}
+use Rattle.eos_verdict.specs.declared.verdict.Verdict.{Verdict}
+use Rattle.eos_verdict.specs.declared.verdict.Verdict.TheVariants.{No}
+use Rattle.eos_verdict.specs.Counts.{counts_line}
+use Rattle.eos_explaining.specs.declared.answer.Answer.TheVariants as answers
+use Rattle.eos_explaining.specs.declared.answer.Findings.{Findings}
+use Rattle.eos_explaining.specs.declared.story.About.{About}
+use Rattle.eos_explaining.specs.Explaining.{AreTold, AreSeen, IsTheStory}
+use Rattle.eos_explaining.specs.steps.Tellings.{IsAnswer}
+use Rattle.eos_explaining.specs.FirstStories.{AreStoriesOf, AreFirstStories}
+use Rattle.eos_explaining.specs.Folders.{AreRead, HasThem, HoldsAsRead}
+use Rattle.eos_explaining.specs.steps.Again.{AreKept, IsToldBy, AreToldBy}
+use Rattle.eos_explaining.specs.steps.Found.{AreFoundBy, HoldsBy}
+use Rattle.eos_explaining.proofs.PickedFaults.{picked_first, picked_one}
+
+pub of_judged : (known : ℕ → Known) (shape : EvidenceParts) (judged : Judged) (Holds : EvidenceParts → Type 0) → IsJudgedOf known shape judged → HoldsBy known shape judged Holds → HoldsAsRead known shape Holds
+of_judged known shape judged Holds j h = record {
+  again = h.again;
+  listed = h.listed;
+  read = h.read;
+  named = h.named;
+  are = record { said = j.said; as_known = j.as_known; holds = λ e of there has. h.are e of.spec (j.holds e of) there has };
+}
+
+-- what needs no partition once more
+pub by_judged : (known : ℕ → Known) (shape : EvidenceParts) (judged : Judged) (Holds : EvidenceParts → Type 0) → ((e : EvidenceParts) → e.spec ≡ shape.spec → IsJudgedFor judged e → Holds e) → HoldsBy known shape judged Holds
+by_judged known shape judged Holds h = record { again = []; listed = tt; read = []; named = λ p has. absurd has; are = λ e spec j there has. h e spec j }
+
+-- the logs as stories see them, of each evidence that has what was read for them
+abbrev pub Sees : EvidenceParts → List Partition → List PartLog → List PartLog → Type 0
+Sees shape read parts seen = (e : EvidenceParts) (logs : List PartLog) → IsEvidence e → e.spec ≡ shape.spec → HasThem e read → AreLogsOf e.partitions logs → parts ≡ wanted_logs e.spec.apps logs → AreSeen e logs seen
+
+pub them_before : (e : EvidenceParts) (before after : List Partition) → AreKept before after → HasThem e after → HasThem e before
+them_before e before after kept has = λ p here. has p (kept p here)
+
+module _ (known : ℕ → Known) (shape : EvidenceParts) (judged : Judged) where
+  -- ---- one fault
+
+  pub one_held : (number : ℕ) (found : Findings) → AreFoundBy known shape judged (number - 1) 1 found → 0 < number → number ≤ found.all → length found.told.items ≡ 1
+  one_held number found f first inside =
+      let named = map No f.faults in
+      let many : length named ≡ length f.faults = length-map f.faults No in
+      ap length f.held ∙ picked_one (number - 1) named (omega (arith, first, inside, f.all, many))
+
+  pub held_is : (number : ℕ) (found : Findings) (v : Verdict) (f : AreFoundBy known shape judged (number - 1) 1 found) → slice_get found.told.items 0 ≡ Some v → slice_get (map No f.faults) (number - 1) ≡ Some v
+  held_is number found v f at = sym (picked_first (number - 1) (map No f.faults)) ∙ (ap (λ (vs : List Verdict). slice_get vs 0) (sym f.held) ∙ at)
+
+  told_all : (e : EvidenceParts) (from most : ℕ) (found : Findings) (f : AreFoundBy known shape judged from most found) → e.spec ≡ shape.spec → (j : IsJudgedFor judged e) → AreThere f.again e.partitions → AreTold e j.logs.whole (map No f.faults)
+  told_all e from most found f spec j there = record { faults = f.faults; of = j.logs.of; are = f.are e spec j there; named = refl }
+
+  pub fewer_by : (folder : List ℕ) (number : ℕ) (from : ℕ) (found : Findings) → AreFoundBy known shape judged from 1 found → (number ≡ 0) ⊎ (found.all < number) → HoldsBy known shape judged (λ e. IsAnswer folder e number (answers.Fewer found.all))
+  fewer_by folder number from found f few = record {
+    again = f.again;
+    listed = f.read;
+    read = [];
+    named = λ p has. absurd has;
+    are = λ e spec j there has. record {
+      logs = j.logs.whole;
+      told = map No f.faults;
+      are = told_all e from 1 found f spec j there;
+      counted = f.all ∙ sym (length-map f.faults No);
+      fewer = few;
+    };
+  }
+
+  pub story_by : (number : ℕ) (found : Findings) (seen read : List Partition) (about : About) (verdict : Verdict) (text : List ℕ) → AreFoundBy known shape judged (number - 1) 1 found → 0 < number
+      → slice_get found.told.items 0 ≡ Some verdict → about.notes.now ≡ found.notes.items → about.counts.now ≡ string_bytes found.line → AreRead known shape.partitions read → AreKept seen read
+      → Sees shape seen judged.logs.parts.items about.logs.now → IsToldBy shape read about verdict text
+      → HoldsBy known shape judged (λ e. IsTheStory about.folder.now e number text)
+  story_by number found seen read about verdict text f first at notes counts named kept sees told = record {
+    again = f.again;
+    listed = f.read;
+    read = read;
+    named = named;
+    are = λ e spec j there has. record {
+      logs = j.logs.whole;
+      told = map No f.faults;
+      are = told_all e (number - 1) 1 found f spec j there;
+      before = number - 1;
+      numbered = omega (arith, first);
+      verdict = verdict;
+      at = held_is number found verdict f at;
+      seen = about.logs.now;
+      sees = sees e j.logs.whole j.is_evidence spec (them_before e seen read kept has) j.logs.of j.logs.parts;
+      story = told e j.is_evidence spec has (subst (AreAllNotes e) (sym notes) (f.notes e spec j)) (map No f.faults) (counts ∙ f.line);
+    };
+  }
+
+  -- ---- the first ones
+
+  stories_of : (e : EvidenceParts) (read : List Partition) (about : About) (all vs : List Verdict) (ts : List (List ℕ)) → IsEvidence e → e.spec ≡ shape.spec → HasThem e read → AreAllNotes e about.notes.now → about.counts.now ≡ counts_line all
+      → AreToldBy shape read about vs ts → AreStoriesOf about.folder.now e about.logs.now all vs ts
+  stories_of e read about all [] [] is spec has notes counts told = tt
+  stories_of e read about all [] (t ∷ ts) is spec has notes counts told = absurd told
+  stories_of e read about all (v ∷ vs) [] is spec has notes counts told = absurd told
+  stories_of e read about all (v ∷ vs) (t ∷ ts) is spec has notes counts told = (told.0 e is spec has notes all counts, stories_of e read about all vs ts is spec has notes counts told.1)
+
+  pub stories_by : (most : ℕ) (found : Findings) (seen read : List Partition) (about : About) (texts : List (List ℕ)) → AreFoundBy known shape judged 0 most found → about.notes.now ≡ found.notes.items → about.counts.now ≡ string_bytes found.line
+      → AreRead known shape.partitions read → AreKept seen read → Sees shape seen judged.logs.parts.items about.logs.now → AreToldBy shape read about found.told.items texts
+      → HoldsBy known shape judged (λ e. AreFirstStories about.folder.now e most texts)
+  stories_by most found seen read about texts f notes counts named kept sees told = record {
+    again = f.again;
+    listed = f.read;
+    read = read;
+    named = named;
+    are = λ e spec j there has. record {
+      logs = j.logs.whole;
+      told = map No f.faults;
+      are = told_all e 0 most found f spec j there;
+      seen = about.logs.now;
+      sees = sees e j.logs.whole j.is_evidence spec (them_before e seen read kept has) j.logs.of j.logs.parts;
+      each = stories_of e read about (map No f.faults) (take most (map No f.faults)) texts j.is_evidence spec has (subst (AreAllNotes e) (sym notes) (f.notes e spec j)) (counts ∙ f.line)
+          (subst (λ (vs : List Verdict). AreToldBy shape read about vs texts) f.held told);
+    };
+  }

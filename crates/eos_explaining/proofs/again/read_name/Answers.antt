@@ -1,0 +1,13 @@
+use Rattle.std.proofs.Common.{◌≡◌, List, Some, None, subst}
+use Rattle.eos_evidence.specs.declared.partition.Partition.{Partition}
+use Rattle.eos_sought.specs.Partitions.{partition_named}
+use Rattle.eos_explaining.proofs.Covered.{was_read}
+use Rattle.eos_explaining.proofs.again.read_name.Goals as goal
+
+pub returns-in-Some-clause-covered : goal.returns-in-Some-clause-covered
+returns-in-Some-clause-covered g c =
+    was_read c.args.pieces.now.shape.now.partitions c.args.read.now.items c.args.name.now c.in-Some._partition.now
+    (subst (λ (ps : List Partition). partition_named c.args.name.now ps ≡ Some c.in-Some._partition.now) c.as_slice.ensures.value c.in-Some.ensures.some)
+
+pub read_new-requires-clause-unread : goal.read_new-requires-clause-unread
+read_new-requires-clause-unread g c κs within = subst (λ (ps : List Partition). partition_named c.args.name.now ps ≡ None) c.as_slice.ensures.value c.in-None.ensures.none
