@@ -265,7 +265,7 @@ def fewer(tests):
 
 def told_of(tests, folder, name):
     """Whether a folder's story shows all of its rows; then it is the same over folds of all partitions that it doesn't name, and where
-    these are folds too, the first of them that it asks for is refused."""
+    these are folds too, the first of them that it asks for is refused, if any is there."""
     status, out, err = tests.run("explain", folder)
     if status != 1 or ".. and " in out:
         return False
@@ -276,8 +276,12 @@ def told_of(tests, folder, name):
     folds = folds_of(folder)[0]
     made = with_folds(folder, folds, tests.new("told"), lambda path: os.path.dirname(path) not in named)
     tests.same(f"{name}, its story over folds", tests.run("explain", made), (status, out.replace(folder, made), err.replace(folder, made)))
+    told = status, out, err
     made = with_folds(folder, folds, tests.new("told"))
     status, out, err = tests.run("explain", made)
+    if named.isdisjoint(partitions_of(folder)):
+        tests.same(f"{name}, its story of what isn't there where all are folds", (status, out.replace(made, folder), err.replace(made, folder)), told)
+        return True
     found = re.match(rf"eoscheck: {re.escape(made)}/([^/\n]+)/[0-9]{{20}}[.]fold: Fold\n", err)
     tests.same(f"{name}, its story where all are folds", (status, out, bool(found) and found[1] in named), (2, "", True))
     return True
@@ -288,7 +292,7 @@ def stories(tests):
     with open("tests/evidence/expected.tsv", encoding="utf-8") as file:
         rows = [line.rstrip("\n").split("\t") for line in file]
     told = [told_of(tests, os.path.join("tests/evidence", name), name) for name, _, line in rows if line.startswith("no ")]
-    tests.same("stories over folds are tried", sum(told) > 60, True)
+    tests.same("stories over folds are tried", sum(told) > 40, True)
 
 
 # ---- worked folds, and how large folds are
