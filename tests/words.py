@@ -25,7 +25,7 @@ TABLE = {
     "place": """
         eos_claims: place Place PlaceRef
         eos_explaining: push_first_place push_place_command push_row_place push_segment_place
-        eos_faults: LentPlace OutputPlaces lesser_place own_place place_in places_of take_place
+        eos_faults: LentPlace own_place
         eos_lineage: own_place_if
         eos_picture: TxnPlace push_place
         eos_reading: places

@@ -1,24 +1,36 @@
 //! How many faults of each kind there are: they are counted one after the other, and only those that are asked for are held.
 
-ghost use Rattle.std.specs.Prelude.{◌≡◌, ◌++◌, ◌∷◌, [], ℕ, List, Some, map, flat_map, cond, IfOk, OnOk, string_bytes};
+ghost use Rattle.std.specs.Prelude.{◌≡◌, ◌<◌, ◌++◌, ◌∷◌, [], ℕ, List, Some, length, slice_get, map, flat_map, cond, IfOk, OnOk, string_bytes};
 ghost use Rattle.std.specs.BTreeMap.{get};
 ghost use Rattle.std.specs.Ordering.{nat_cmp, is_eq};
 ghost use Rattle.eos_text.specs.Adding.{Adds};
 ghost use Rattle.eos_verdict.specs.Counts.{counts_line};
 ghost use Rattle.eos_verdict.specs.VerdictNames.{number_of};
+ghost use Rattle.eos_verdict.specs.declared.lineage_fault.LineageFault.{LineageFault as OfLineage};
+ghost use Rattle.eos_verdict.specs.declared.verdict.Fault.{Fault as AFault};
 ghost use Rattle.eos_verdict.specs.declared.verdict.Fault.TheVariants.{Lineage};
 ghost use Rattle.eos_verdict.specs.declared.verdict.Verdict.{Verdict as Named};
 ghost use Rattle.eos_verdict.specs.declared.verdict.Verdict.TheVariants.{No};
+ghost use Rattle.eos_faults.specs.OutputKinds.{IsOfKind};
 ghost use Rattle.eos_source_check.specs.FaultLists.{faults_in};
 ghost use Rattle.eos_explaining.specs.steps.Kinds.{kind_line, kind_at, counts_text};
-ghost use Rattle.eos_explaining.specs.steps.Counting.{HasKind, AreKinds, IsPicked};
+ghost use Rattle.eos_explaining.specs.steps.Counting.{IsKindOf, HasKind, AreKinds, IsPicked};
 
 use eos_check::{Fault, Verdict};
+use eos_claims::OutputKind;
 use eos_faults::OutputFaults;
 use eos_source_check::AllFaults;
 use eos_text::{push_text, push_value};
 use std::alloc::{AllocError, Global};
 use std::collections::BTreeMap;
+
+/// A kind of faults: its number in its phase, which is another for each kind of one list, the phase and the name.
+#[derive(Clone, Copy)]
+pub(crate) struct Kind {
+    pub(crate) number: u8,
+    pub(crate) phase: u8,
+    pub(crate) name: &'static str,
+}
 
 /// How many faults of a kind there are, its phase and its name.
 #[derive(Clone, Copy)]
@@ -51,6 +63,27 @@ pub(crate) struct Picked {
 
 // ---- counting
 
+fn kind_of(fault: &Fault) -> Kind
+    ensures { IsKindOf fault.now result }
+{
+    Kind {
+        number: fault.number(),
+        phase: fault.phase(),
+        name: fault.name(),
+    }
+}
+
+/// The kind of a fault of the outputs.
+fn kind_of_output(kind: OutputKind) -> Kind
+    ensures { (fault : OfLineage) → IsOfKind kind fault → IsKindOf (Lineage fault) result }
+{
+    Kind {
+        number: kind.number(),
+        phase: 5,
+        name: kind.name(),
+    }
+}
+
 fn counted_in(kinds: &BTreeMap<u8, KindCount>, number: u8) -> Option<KindCount>
     ensures { result ≡ get nat_cmp kinds.now number }
 {
@@ -68,15 +101,15 @@ fn put_count(
     Ok(())
 }
 
-/// The count of the fault's kind with this fault.
-fn with_one(known: Option<KindCount>, fault: &Fault) -> Result<KindCount, AllocError>
-    ensures { IfOk result (λ count. (told : List Named) → HasKind told (number_of fault.now) known → HasKind (told ++ No fault.now ∷ []) (number_of fault.now) (Some count)) }
+/// The count of this kind with one fault more.
+fn with_one(known: Option<KindCount>, kind: Kind) -> Result<KindCount, AllocError>
+    ensures { IfOk result (λ count. (told : List Named) (fault : AFault) → IsKindOf fault kind → HasKind told (number_of fault) known → HasKind (told ++ No fault ∷ []) (number_of fault) (Some count)) }
 {
     match known {
         None => Ok(KindCount {
             count: 1,
-            phase: fault.phase(),
-            name: fault.name(),
+            phase: kind.phase,
+            name: kind.name,
         }),
         Some(known) => {
             let count = known.count.checked_add(1).ok_or(AllocError)?;
@@ -100,13 +133,12 @@ impl KindCounts {
         }
     }
 
-    /// With one fault more.
-    fn take(&mut self, fault: &Fault) -> Result<(), AllocError>
-        ensures { (told : List Named) → AreKinds told self.old → OnOk result (AreKinds (told ++ No fault.now ∷ []) self.new) }
+    /// With one fault more, of this kind.
+    fn take(&mut self, kind: Kind) -> Result<(), AllocError>
+        ensures { (told : List Named) (fault : AFault) → IsKindOf fault kind → AreKinds told self.old → OnOk result (AreKinds (told ++ No fault ∷ []) self.new) }
     {
-        let number = fault.number();
-        let count = with_one(counted_in(&self.kinds, number), fault)?;
-        put_count(&mut self.kinds, number, count)?;
+        let count = with_one(counted_in(&self.kinds, kind.number), kind)?;
+        put_count(&mut self.kinds, kind.number, count)?;
         self.all = self.all.checked_add(1).ok_or(AllocError)?;
         Ok(())
     }
@@ -118,9 +150,29 @@ impl Picked {
         ensures { (told : List Named) → IsPicked told pick.from pick.most self.old → OnOk result (IsPicked (told ++ No fault ∷ []) pick.from pick.most self.new) }
     {
         let place = self.counts.all;
-        self.counts.take(&fault)?;
+        self.counts.take(kind_of(&fault))?;
         if place >= pick.from && place - pick.from < pick.most {
             self.told.push(Verdict::No(fault))?;
+        }
+        Ok(())
+    }
+
+    /// With the fault more that stands at this place of a lent list. It has names of its own only where it is held.
+    fn take_lent(
+        &mut self,
+        alloc: Global,
+        faults: &OutputFaults<'_>,
+        at: usize,
+        pick: Pick,
+    ) -> Result<(), AllocError>
+        requires { at < length faults.now }
+        ensures { (told : List Named) (fault : OfLineage) → slice_get faults.now at ≡ Some fault → IsPicked told pick.from pick.most self.old → OnOk result (IsPicked (told ++ No (Lineage fault) ∷ []) pick.from pick.most self.new) }
+    {
+        let place = self.counts.all;
+        self.counts.take(kind_of_output(faults.kind(at)))?;
+        if place >= pick.from && place - pick.from < pick.most {
+            let fault = faults.fault(alloc, at)?;
+            self.told.push(Verdict::No(Fault::Lineage(fault)))?;
         }
         Ok(())
     }
@@ -139,7 +191,7 @@ fn picked_in_list(alloc: Global, faults: Vec<Fault>, pick: Pick) -> Result<Picke
     Ok(all)
 }
 
-/// Of these one at a time has names of its own, and those that are held.
+/// Of these only those that are held have names of their own.
 fn picked_in_lent(
     alloc: Global,
     faults: &OutputFaults<'_>,
@@ -152,8 +204,7 @@ fn picked_in_lent(
         told: Vec::new(alloc),
     };
     for at in 0..faults.len() {
-        let fault = faults.fault(alloc, at)?;
-        all.take(Fault::Lineage(fault), pick)?;
+        all.take_lent(alloc, faults, at, pick)?;
     }
     Ok(all)
 }

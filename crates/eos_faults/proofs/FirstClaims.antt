@@ -66,7 +66,7 @@ first_is a i t l = record {
 pub none_first : (a : Application) (i : Place) → NoneWhere (names i) a.claims → (c : PlacedClaim) → Names a i c → ⊥
 none_first a i none c n = none c n.has (true_same_place c.source i n.source)
 
-neither_greater : {X : Type 0} {cmp : X → X → Ordering} → IsTotalOrder cmp → (x y : X) → UpTo cmp x y → UpTo cmp y x → cmp x y ≡ Equal
+pub neither_greater : {X : Type 0} {cmp : X → X → Ordering} → IsTotalOrder cmp → (x y : X) → UpTo cmp x y → UpTo cmp y x → cmp x y ≡ Equal
 neither_greater {X} {cmp} o x y p q = go (cmp x y) (cmp y x) (o.antisymm x y) p q
   where
     go : (r s : Ordering) → r ≡ ordering_reverse s → is_gt r ≡ false → is_gt s ≡ false → r ≡ Equal

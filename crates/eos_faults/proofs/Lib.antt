@@ -8,6 +8,7 @@ pub mod FirstClaims
 pub mod GatheredSound
 pub mod GatheredWhole
 pub mod TableSteps
+pub mod SortedClaims
 pub mod LookedUp
 pub mod WholeOutputs
 pub mod LentOutputs

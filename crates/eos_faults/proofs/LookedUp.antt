@@ -10,10 +10,10 @@ use Rattle.eos_base.specs.declared.partition_name.PartitionName.{PartitionName}
 use Rattle.eos_base.specs.PartitionNames.{name_cmp}
 use Rattle.eos_base.specs.Members.{is_found}
 use Rattle.eos_claims.specs.declared.place.Place.{Place}
-use Rattle.eos_claims.specs.Outputs.{Writer, PlacedClaim, Commit, last_offset, committed_offset}
+use Rattle.eos_claims.specs.Outputs.{Writer, Commit, last_offset, committed_offset}
 use Rattle.eos_claims.specs.Candidates.{is_by, passes}
-use Rattle.eos_faults.specs.steps.OutputFaultsGathered.{disagrees, is_repeated, top_of, first_absent}
-use Rattle.eos_faults.specs.steps.Tables.{seen, next_offset, last_of, further, next_reach, goes_past, key_by, is_reached, seen_disagrees, place_before, seen_top}
+use Rattle.eos_faults.specs.steps.OutputFaultsGathered.{first_absent}
+use Rattle.eos_faults.specs.steps.Tables.{next_offset, last_of, further, next_reach, goes_past, key_by, is_reached}
 
 -- ---- committed offsets
 
@@ -80,25 +80,11 @@ pub passed_is : (w : Option Writer) (i : Place) (ms : List Commit) → is_reache
 passed_is None i ms = sym (none_passes i ms)
 passed_is (Some w) i ms = past_from w i None ms
 
--- ---- the first claims
-
-pub disagrees_is : (w : Option PlacedClaim) (of : ℕ) → seen_disagrees (option_map seen w) of ≡ disagrees w of
-disagrees_is None of = refl
-disagrees_is (Some t) of = refl
-
-pub repeated_is : (w : Option PlacedClaim) (at : Place) → place_before (option_map (λ c. c.at) w) at ≡ is_repeated w at
-repeated_is None at = refl
-repeated_is (Some t) at = refl
-
-pub top_is : (w : Option PlacedClaim) → seen_top (option_map seen w) ≡ top_of w
-top_is None = refl
-top_is (Some t) = refl
+-- ---- the first number that isn't there
 
 pub some_mapped : {X Y : Type 0} (f : X → Y) (o : Option X) → is_some (option_map f o) ≡ is_some o
 some_mapped f None = refl
 some_mapped f (Some x) = refl
-
--- ---- the first number that isn't there
 
 one_less : (top n : ℕ) → n < top → (c : ℕ) × (top - n ≡ suc c) × (c ≡ top - (n + 1))
 one_less top n lt = (top - (n + 1), omega (arith, lt), refl)

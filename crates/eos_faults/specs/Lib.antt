@@ -1,5 +1,6 @@
 pub mod steps
 pub mod LineageFaults
 pub mod OneInput
+pub mod OutputKinds
 pub mod PartitionPlaces
 pub mod PartitionLists

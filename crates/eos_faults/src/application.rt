@@ -9,7 +9,6 @@ ghost use Rattle.eos_faults.specs.steps.Plain.{claim_at, fault_of, place_at};
 ghost use Rattle.eos_faults.specs.steps.Tables.{AreTables};
 
 use crate::commits::{offsets_of, reached_by};
-use crate::firsts::{firsts_of, places_of};
 use crate::lent::{LentFault, LentPlace, VisibleClaim};
 use crate::shown_by_claims::found;
 use crate::tables::Tables;
@@ -22,23 +21,20 @@ fn tables_of<'a>(
     sources: TopicSet<'a>,
     inputs: Vec<LentPlace<'a>>,
     commits: &[CommitRef<'a>],
-    claims: &[VisibleClaim<'a>],
+    claims: Vec<VisibleClaim<'a>>,
 ) -> Result<Tables<'a>, AllocError>
-    ensures tables { (a : Application) → IsPermutation a.sources sources.entry → map place_at inputs.entry.items ≡ a.inputs → map plain_commit commits.now ≡ a.commits
-        → map claim_at claims.now ≡ a.claims → IfOk result (λ tables. AreTables a tables) }
+    ensures tables { (a : Application) → AreApart a → IsPermutation a.sources sources.entry → map place_at inputs.entry.items ≡ a.inputs → map plain_commit commits.now ≡ a.commits
+        → map claim_at claims.entry.items ≡ a.claims → IfOk result (λ tables. AreTables a tables) }
     ensures inputs { IfOk result (λ tables. IsPermutation inputs.entry.items tables.inputs) }
 {
     let offsets = offsets_of(alloc, commits)?;
     let reached = reached_by(alloc, commits)?;
-    let firsts = firsts_of(alloc, claims)?;
-    let places = places_of(alloc, claims)?;
     Ok(Tables {
         sources,
         inputs: Sorted::of(inputs),
         offsets,
         reached,
-        firsts,
-        places,
+        claims: Sorted::of(claims),
     })
 }
 
@@ -49,12 +45,12 @@ pub(crate) fn output_faults<'a>(
     sources: TopicSet<'a>,
     inputs: Vec<LentPlace<'a>>,
     commits: &[CommitRef<'a>],
-    claims: &[VisibleClaim<'a>],
+    claims: Vec<VisibleClaim<'a>>,
 ) -> Result<Vec<LentFault<'a>>, AllocError>
     ensures { (a : Application) → ReadsSources a → AreApart a → IsPermutation a.sources sources.entry → map place_at inputs.entry.items ≡ a.inputs → map plain_commit commits.now ≡ a.commits
-        → map claim_at claims.now ≡ a.claims → IfOk result (λ faults. AreOutputFaults a (map fault_of faults.items)) }
+        → map claim_at claims.entry.items ≡ a.claims → IfOk result (λ faults. AreOutputFaults a (map fault_of faults.items)) }
 {
     let tables = tables_of(alloc, sources, inputs, commits, claims)?;
-    let faults = found(alloc, &tables, claims)?;
+    let faults = found(alloc, &tables)?;
     Ok(distinct_in_order(faults))
 }

@@ -36,13 +36,7 @@ fn faults_of<'a>(
     let inputs = inputs_of(alloc, &sources, parts)?;
     let claims = claims_of(alloc, &outputs, parts)?;
     let commits = table.commits_of(alloc, app)?;
-    output_faults(
-        alloc,
-        sources,
-        inputs,
-        commits.as_slice(),
-        claims.as_slice(),
-    )
+    output_faults(alloc, sources, inputs, commits.as_slice(), claims)
 }
 
 /// The group that a fault of an application's outputs names.

@@ -16,14 +16,14 @@ pub(crate) struct LentPlace<'a> {
     pub offset: u64,
 }
 
-/// A visible record of an output topic, as it claims to be an output.
-#[derive(Clone, Copy)]
+/// A visible record of an output topic, as it claims to be an output. Claims are ordered by source, output number and place.
+#[derive(Clone, Copy, PartialEq, Eq, PartialOrd, Ord)]
 pub(crate) struct VisibleClaim<'a> {
     pub source: LentPlace<'a>,
     pub output: u32,
-    pub of: u32,
     /// Where the claim stands.
     pub at: LentPlace<'a>,
+    pub of: u32,
     /// The producer id and epoch of its transaction, if it is of one.
     pub writer: Option<(i64, i16)>,
 }

@@ -7,10 +7,10 @@
 #![tactic(auto)]
 
 mod application;
+mod claims;
 mod commits;
 mod every;
 mod faults;
-mod firsts;
 pub mod gathered_laws;
 mod gathering;
 mod homes;

@@ -1,13 +1,14 @@
 //! All faults of the applications' outputs, as a list whose names are lent from the logs.
 
-ghost use Rattle.std.specs.Prelude.{◌≡◌, ◌++◌, ◌∷◌, [], ◌<◌, length, option_map, slice_get, Some, IfOk, OnOk};
+ghost use Rattle.std.specs.Prelude.{◌≡◌, ◌++◌, ◌∷◌, [], ◌<◌, length, option_map, slice_get, Some, IfOk, IfSome, OnOk};
+ghost use Rattle.eos_faults.specs.OutputKinds.{IsOfKind};
 ghost use Rattle.eos_faults.specs.steps.Plain.{fault_of, place_at};
 ghost use Rattle.eos_faults.specs.steps.Taken.{named_in, lineage_of};
 
 use crate::lent::{LentFault, LentPlace};
 use bytes::Bytes;
 use eos_base::PartitionName;
-use eos_claims::{OutputFault, Place};
+use eos_claims::{OutputFault, OutputKind, Place};
 use eos_evidence::GroupId;
 use eos_lineage::LineageFault;
 use std::alloc::{AllocError, Global};
@@ -117,6 +118,14 @@ impl<'a> OutputFaults<'a> {
         ensures { result ≡ length self.now }
     {
         self.faults.len()
+    }
+
+    /// The kind of the fault at this place.
+    pub fn kind(&self, at: usize) -> OutputKind
+        requires { at < length self.now }
+        ensures { IfSome (slice_get self.now at) (IsOfKind result) }
+    {
+        self.faults[at].fault.kind
     }
 
     /// The fault at this place, with names of its own.

@@ -88,8 +88,8 @@ fn visible_claim<'a>(
             offset: claim.offset,
         },
         output: claim.output,
-        of: claim.of,
         at,
+        of: claim.of,
         writer,
     }
 }

@@ -7,6 +7,7 @@ ghost use Rattle.eos_faults.specs.steps.OutputFaultsGathered.{placed_at, numbere
 ghost use Rattle.eos_faults.specs.steps.Plain.{claim_at, fault_of, place_at};
 ghost use Rattle.eos_faults.specs.steps.Tables.{AreTables};
 
+use crate::claims::Marks;
 use crate::lent::{LentFault, LentPlace, VisibleClaim};
 use crate::tables::{
     Tables, disagrees, first_absent, is_committed, is_input, is_passed, is_repeated, is_source,
@@ -59,13 +60,14 @@ fn push_placed<'a>(
 fn push_numbered<'a>(
     faults: &mut Vec<LentFault<'a>>,
     tables: &Tables<'a>,
+    marks: &mut Marks,
     claim: &VisibleClaim<'a>,
 ) -> Result<(), AllocError>
     ensures { (a : Application) → AreTables a tables.now → OnOk result (map fault_of faults.new.items ≡ map fault_of faults.old.items ++ numbered_at a (claim_at claim.now)) }
 {
     let out = is_out_of_range(claim.of, claim.output);
-    let disagrees = disagrees(tables, claim);
-    let repeated = is_repeated(tables, claim);
+    let disagrees = disagrees(tables, marks, claim);
+    let repeated = is_repeated(tables, marks, claim);
     push_when(faults, out, OutputKind::NumberRange, claim)?;
     push_when(faults, disagrees, OutputKind::CountDisagrees, claim)?;
     push_when(faults, repeated, OutputKind::Repeated, claim)?;
@@ -75,12 +77,13 @@ fn push_numbered<'a>(
 fn push_claim<'a>(
     faults: &mut Vec<LentFault<'a>>,
     tables: &Tables<'a>,
+    marks: &mut Marks,
     claim: &VisibleClaim<'a>,
 ) -> Result<(), AllocError>
     ensures { (a : Application) → AreTables a tables.now → OnOk result (map fault_of faults.new.items ≡ map fault_of faults.old.items ++ shown_at a (claim_at claim.now)) }
 {
     push_placed(faults, tables, claim)?;
-    push_numbered(faults, tables, claim)?;
+    push_numbered(faults, tables, marks, claim)?;
     Ok(())
 }
 
@@ -107,12 +110,13 @@ fn push_missing<'a>(
 fn push_input<'a>(
     faults: &mut Vec<LentFault<'a>>,
     tables: &Tables<'a>,
+    marks: &mut Marks,
     input: &LentPlace<'a>,
 ) -> Result<(), AllocError>
     ensures { (a : Application) → AreTables a tables.now → OnOk result (map fault_of faults.new.items ≡ map fault_of faults.old.items ++ lacking a (place_at input.now)) }
 {
     if is_committed(tables, input) {
-        push_missing(faults, input, first_absent(tables, input))?;
+        push_missing(faults, input, first_absent(tables, marks, input))?;
     }
     Ok(())
 }
@@ -124,8 +128,9 @@ fn push_claims<'a>(
 ) -> Result<(), AllocError>
     ensures { (a : Application) → AreTables a tables.now → OnOk result (map fault_of faults.new.items ≡ map fault_of faults.old.items ++ flat_map (shown_at a) (map claim_at claims.now)) }
 {
+    let mut marks = Marks::new();
     for claim in claims {
-        push_claim(faults, tables, claim)?;
+        push_claim(faults, tables, &mut marks, claim)?;
     }
     Ok(())
 }
@@ -137,8 +142,9 @@ fn push_inputs<'a>(
 ) -> Result<(), AllocError>
     ensures { (a : Application) → AreTables a tables.now → OnOk result (map fault_of faults.new.items ≡ map fault_of faults.old.items ++ flat_map (lacking a) (map place_at inputs.now)) }
 {
+    let mut marks = Marks::new();
     for input in inputs {
-        push_input(faults, tables, input)?;
+        push_input(faults, tables, &mut marks, input)?;
     }
     Ok(())
 }
@@ -147,12 +153,11 @@ fn push_inputs<'a>(
 pub(crate) fn found<'a>(
     alloc: Global,
     tables: &Tables<'a>,
-    claims: &[VisibleClaim<'a>],
 ) -> Result<Vec<LentFault<'a>>, AllocError>
-    ensures { (a : Application) → AreTables a tables.now → map claim_at claims.now ≡ a.claims → IfOk result (λ faults. map fault_of faults.items ≡ gathered_by a (map place_at tables.now.inputs)) }
+    ensures { (a : Application) → AreTables a tables.now → IfOk result (λ faults. map fault_of faults.items ≡ gathered_by a (map claim_at tables.now.claims) (map place_at tables.now.inputs)) }
 {
     let mut faults = Vec::new(alloc);
-    push_claims(&mut faults, tables, claims)?;
+    push_claims(&mut faults, tables, tables.claims.as_slice())?;
     push_inputs(&mut faults, tables, tables.inputs.as_slice())?;
     Ok(faults)
 }

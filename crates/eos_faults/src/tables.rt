@@ -5,10 +5,10 @@ ghost use Rattle.eos_claims.specs.Outputs.{Application};
 ghost use Rattle.eos_claims.specs.Candidates.{is_source as is_source_of, is_input as is_input_of, is_committed as is_committed_of, is_passed as is_passed_of};
 ghost use Rattle.eos_faults.specs.steps.OutputFaultsGathered.{first_of, first_at, first_absent as first_absent_of, is_there as is_there_in, disagrees as disagrees_with, is_repeated as is_repeated_after, top_of as top_by};
 ghost use Rattle.eos_faults.specs.steps.Plain.{claim_at, place_at};
-ghost use Rattle.eos_faults.specs.steps.Tables.{AreTables, first_seen, goes_past as is_past, place_before, seen_disagrees, seen_top};
+ghost use Rattle.eos_faults.specs.steps.Tables.{AreTables, goes_past as is_past};
 
+use crate::claims::{Marks, first_in, numbered_in};
 use crate::commits::{Offset, Offsets, Reached, offset_in, pass_key, reach_in};
-use crate::firsts::{First, Firsts, OutputPlaces, first_in, place_in};
 use crate::lent::{LentPlace, VisibleClaim};
 use eos_base::Sorted;
 use eos_commits::TopicSet;
@@ -22,8 +22,7 @@ pub(crate) struct Tables<'a> {
     pub inputs: Sorted<LentPlace<'a>>,
     pub offsets: Offsets<'a>,
     pub reached: Reached<'a>,
-    pub firsts: Firsts<'a>,
-    pub places: OutputPlaces<'a>,
+    pub claims: Sorted<VisibleClaim<'a>>,
 }
 
 /// Whether an offset was committed, and this one is below it.
@@ -67,8 +66,8 @@ pub(crate) fn is_passed<'a>(tables: &Tables<'a>, claim: &VisibleClaim<'a>) -> bo
     }
 }
 
-fn has_other_count(first: Option<First<'_>>, of: u32) -> bool
-    ensures { result ≡ seen_disagrees (option_map first_seen first.entry) of }
+fn has_other_count(first: Option<VisibleClaim<'_>>, of: u32) -> bool
+    ensures { result ≡ disagrees_with (option_map claim_at first.entry) of }
 {
     match first {
         None => false,
@@ -77,31 +76,41 @@ fn has_other_count(first: Option<First<'_>>, of: u32) -> bool
 }
 
 /// Whether the claim's count is another than that of the first claim of its source.
-pub(crate) fn disagrees<'a>(tables: &Tables<'a>, claim: &VisibleClaim<'a>) -> bool
+pub(crate) fn disagrees<'a>(
+    tables: &Tables<'a>,
+    marks: &mut Marks,
+    claim: &VisibleClaim<'a>,
+) -> bool
     ensures { (a : Application) → AreTables a tables.now → result ≡ disagrees_with (first_of a.claims (place_at claim.now.source)) claim.now.of }
 {
-    has_other_count(first_in(&tables.firsts, &claim.source), claim.of)
+    let first = first_in(tables.claims.as_slice(), marks, &claim.source);
+    has_other_count(first, claim.of)
 }
 
-fn is_before(place: Option<LentPlace<'_>>, at: &LentPlace<'_>) -> bool
-    ensures { result ≡ place_before (option_map place_at place.entry) (place_at at.now) }
+fn is_before(first: Option<VisibleClaim<'_>>, at: &LentPlace<'_>) -> bool
+    ensures { result ≡ is_repeated_after (option_map claim_at first.entry) (place_at at.now) }
 {
-    match place {
+    match first {
         None => false,
-        Some(place) => place.cmp(at).is_lt(),
+        Some(first) => first.at.cmp(at).is_lt(),
     }
 }
 
 /// Whether an earlier claim of its source has its number.
-pub(crate) fn is_repeated<'a>(tables: &Tables<'a>, claim: &VisibleClaim<'a>) -> bool
+pub(crate) fn is_repeated<'a>(
+    tables: &Tables<'a>,
+    marks: &mut Marks,
+    claim: &VisibleClaim<'a>,
+) -> bool
     ensures { (a : Application) → AreTables a tables.now → result ≡ is_repeated_after (first_at a.claims (place_at claim.now.source) claim.now.output) (place_at claim.now.at) }
 {
-    let first = place_in(&tables.places, &claim.source, claim.output);
+    let claims = tables.claims.as_slice();
+    let first = numbered_in(claims, marks, &claim.source, claim.output);
     is_before(first, &claim.at)
 }
 
-fn count_or_one(first: Option<First<'_>>) -> u32
-    ensures { result ≡ seen_top (option_map first_seen first.entry) }
+fn count_or_one(first: Option<VisibleClaim<'_>>) -> u32
+    ensures { result ≡ top_by (option_map claim_at first.entry) }
 {
     match first {
         None => 1,
@@ -109,28 +118,32 @@ fn count_or_one(first: Option<First<'_>>) -> u32
     }
 }
 
-fn top_of<'a>(tables: &Tables<'a>, input: &LentPlace<'a>) -> u32
+fn top_of<'a>(tables: &Tables<'a>, marks: &mut Marks, input: &LentPlace<'a>) -> u32
     ensures { (a : Application) → AreTables a tables.now → result ≡ top_by (first_of a.claims (place_at input.now)) }
 {
-    count_or_one(first_in(&tables.firsts, input))
+    count_or_one(first_in(tables.claims.as_slice(), marks, input))
 }
 
-fn is_there<'a>(tables: &Tables<'a>, input: &LentPlace<'a>, output: u32) -> bool
+fn is_there<'a>(tables: &Tables<'a>, marks: &mut Marks, input: &LentPlace<'a>, output: u32) -> bool
     ensures { (a : Application) → AreTables a tables.now → result ≡ is_there_in a.claims (place_at input.now) output }
 {
-    place_in(&tables.places, input, output).is_some()
+    numbered_in(tables.claims.as_slice(), marks, input, output).is_some()
 }
 
 /// The first output that an input lacks, up to what its first claim says.
-pub(crate) fn first_absent<'a>(tables: &Tables<'a>, input: &LentPlace<'a>) -> Option<u32>
+pub(crate) fn first_absent<'a>(
+    tables: &Tables<'a>,
+    marks: &mut Marks,
+    input: &LentPlace<'a>,
+) -> Option<u32>
     ensures { (a : Application) → AreTables a tables.now
         → result ≡ first_absent_of (is_there_in a.claims (place_at input.now)) (top_by (first_of a.claims (place_at input.now))) 1 }
 {
-    let top = top_of(tables, input);
+    let top = top_of(tables, marks, input);
     let mut output = 0;
     while output < top {
         output += 1;
-        if !is_there(tables, input, output) {
+        if !is_there(tables, marks, input, output) {
             return Some(output);
         }
     }

@@ -7,9 +7,16 @@ use Rattle.eos_verdict.specs.VerdictNames.{phase_of, number_of, name_of}
 use Rattle.eos_verdict.specs.declared.verdict.Fault.{Fault}
 use Rattle.eos_verdict.specs.declared.verdict.Verdict.{Verdict}
 use Rattle.eos_verdict.specs.declared.verdict.Verdict.TheVariants.{No}
+use Rattle.eos_explaining.specs.declared.kinds.Kind.{Kind}
 use Rattle.eos_explaining.specs.declared.kinds.KindCount.{KindCount}
 use Rattle.eos_explaining.specs.declared.kinds.KindCounts.{KindCounts}
 use Rattle.eos_explaining.specs.declared.kinds.Picked.{Picked}
+
+-- the kind of a fault
+pub record IsKindOf (fault : Fault) (k : Kind) : Type 0 where
+  pub number : k.number ≡ number_of fault
+  pub phase : k.phase ≡ phase_of fault
+  pub name : k.name.now ≡ name_of fault
 
 -- so many have this number, and the first of them has this phase and this name
 pub record IsKind (told : List Verdict) (n : ℕ) (k : KindCount) : Type 0 where

@@ -89,12 +89,12 @@ lacking a i = if is_committed a i then lacks a.claims i else []
 
 -- ---- all that is gathered
 
--- at these inputs
-abbrev pub gathered_by : Application → List Place → List OutputFault
-gathered_by a inputs = flat_map (shown_at a) a.claims ++ flat_map (lacking a) inputs
+-- at these claims and inputs
+abbrev pub gathered_by : Application → List PlacedClaim → List Place → List OutputFault
+gathered_by a claims inputs = flat_map (shown_at a) claims ++ flat_map (lacking a) inputs
 
 abbrev pub gathered : Application → List OutputFault
-gathered a = gathered_by a a.inputs
+gathered a = gathered_by a a.claims a.inputs
 
 -- the list has an output of lesser number that the same input lacks
 abbrev pub HasEarlier : List OutputFault → OutputFault → Type 0

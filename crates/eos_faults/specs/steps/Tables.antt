@@ -1,70 +1,49 @@
 -- The tables in which the claims of one application are looked up, and those that their sources and commits give.
-use Rattle.std.specs.Prelude.{◌≡◌, ℕ, ℤ, pos, Bool, false, not, ◌&&◌, ◌==◌, Option, Some, None, option_map, List, fold, if◌then◌else◌, int_lt, IsPermutation}
+use Rattle.std.specs.Prelude.{◌≡◌, ℕ, ℤ, pos, Bool, true, false, ◌&&◌, Option, Some, None, option_map, List, length, map, fold, if◌then◌else◌, int_lt, IsPermutation}
+use Rattle.std.specs.List.{AllWithin}
 use Rattle.std.specs.BTreeMap.{BTreeMap, get}
-use Rattle.std.specs.Ordering.{nat_cmp, int_cmp, on, then_cmp, ordering_then, is_eq, is_lt, is_gt}
-use Rattle.std.specs.Cmp.Lexicographic.{slice_cmp}
+use Rattle.std.specs.Ordering.{nat_cmp, int_cmp, ordering_then, is_eq, is_lt}
 use Rattle.std.specs.declared.cmp.Ordering.{Ordering}
 use Rattle.eos_base.specs.declared.partition_name.PartitionName.{PartitionName}
 use Rattle.eos_base.specs.PartitionNames.{name_cmp}
-use Rattle.eos_base.specs.Members.{is_found}
+use Rattle.eos_base.specs.Members.{Has, is_found}
 use Rattle.eos_claims.specs.declared.place.Place.{Place}
 use Rattle.eos_claims.specs.Outputs.{Writer, PlacedClaim, Commit, Application}
 use Rattle.eos_claims.specs.Faults.{place_cmp}
-use Rattle.eos_claims.specs.Candidates.{is_by, is_input}
+use Rattle.eos_claims.specs.Candidates.{AreApart, is_by, is_input}
 use Rattle.eos_faults.specs.declared.lent.LentName.{LentName}
 use Rattle.eos_faults.specs.declared.lent.LentPlace.{LentPlace}
-use Rattle.eos_faults.specs.declared.firsts.First.{First}
-use Rattle.eos_faults.specs.declared.firsts.OutputKey.{OutputKey}
-use Rattle.eos_faults.specs.declared.firsts.SourceKey.{SourceKey}
+use Rattle.eos_faults.specs.declared.lent.VisibleClaim.{VisibleClaim}
+use Rattle.eos_faults.specs.contracts.lent.VisibleClaimOrd.TheImpl.{ghosts as claim_ghosts}
 use Rattle.eos_faults.specs.declared.commits.Offset.{Offset}
 use Rattle.eos_faults.specs.declared.commits.PassKey.{PassKey}
 use Rattle.eos_faults.specs.declared.tables.Tables.{Tables}
-use Rattle.eos_faults.specs.steps.OutputFaultsGathered.{first_of, first_at}
-use Rattle.eos_faults.specs.steps.Plain.{name_at, place_at, by_name, by_place}
+use Rattle.eos_faults.specs.steps.Plain.{name_at, place_at, claim_at, by_name, by_place}
 
--- ---- the first claims
+-- ---- claims in their order
 
--- of a claim, its number, its count and its place
-pub record FirstSeen : Type 0 where
-  pub output : ℕ
-  pub of : ℕ
-  pub at : Place
+-- by source, number and place, and then by what else they say
+abbrev pub by_claim : VisibleClaim → VisibleClaim → Ordering
+by_claim = claim_ghosts.cmp
 
-abbrev pub seen : PlacedClaim → FirstSeen
-seen c = record { output = c.output; of = c.of; at = c.at }
+-- the claim is of a source before this one, or of this one and of a lesser number
+abbrev pub before : Place → ℕ → VisibleClaim → Bool
+before i n c = is_lt (ordering_then (place_cmp (place_at c.source) i) (nat_cmp c.output n))
 
-abbrev pub first_seen : First → FirstSeen
-first_seen f = record { output = f.output; of = f.of; at = place_at f.at }
+abbrev pub AreBefore : Place → ℕ → List VisibleClaim → ℕ → Type 0
+AreBefore i n cs k = AllWithin (λ c. before i n c ≡ true) cs 0 k
 
-abbrev pub seen_cmp : FirstSeen → FirstSeen → Ordering
-seen_cmp = then_cmp (on (λ f. f.output) nat_cmp) (on (λ f. f.at) place_cmp)
+abbrev pub AreBehind : Place → ℕ → List VisibleClaim → ℕ → Type 0
+AreBehind i n cs k = AllWithin (λ c. before i n c ≡ false) cs k (length cs)
 
-abbrev pub lesser_seen : Option FirstSeen → FirstSeen → FirstSeen
-lesser_seen None g = g
-lesser_seen (Some f) g = if is_gt (seen_cmp f g) then g else f
+-- those before it stand in front of this index, and the others behind
+abbrev pub IsBound : Place → ℕ → List VisibleClaim → ℕ → Type 0
+IsBound i n cs k = AreBefore i n cs k × AreBehind i n cs k
 
--- a source by its offset first
-abbrev pub source_key : LentPlace → SourceKey
-source_key p = record { offset = p.offset; partition = p.partition.partition; topic = p.partition.topic }
-
-abbrev pub by_source : SourceKey → SourceKey → Ordering
-by_source j k = ordering_then (nat_cmp j.offset k.offset) (ordering_then (int_cmp j.partition k.partition) (slice_cmp nat_cmp j.topic.now k.topic.now))
-
-abbrev pub AreFirsts : BTreeMap SourceKey First → List PlacedClaim → Type 0
-AreFirsts firsts cs = (k : LentPlace) → option_map first_seen (get by_source firsts (source_key k)) ≡ option_map seen (first_of cs (place_at k))
-
-abbrev pub output_key : LentPlace → ℕ → OutputKey
-output_key p n = record { source = source_key p; output = n }
-
-abbrev pub by_output : OutputKey → OutputKey → Ordering
-by_output j k = ordering_then (by_source j.source k.source) (nat_cmp j.output k.output)
-
-abbrev pub lesser_place : Option Place → Place → Place
-lesser_place None q = q
-lesser_place (Some p) q = if is_gt (place_cmp p q) then q else p
-
-abbrev pub ArePlaces : BTreeMap OutputKey LentPlace → List PlacedClaim → Type 0
-ArePlaces places cs = (k : LentPlace) (n : ℕ) → option_map place_at (get by_output places (output_key k n)) ≡ option_map (λ c. c.at) (first_at cs (place_at k) n)
+-- these are the application's claims, in whatever order
+pub record AreClaims (a : Application) (cs : List VisibleClaim) : Type 0 where
+  pub sound : (c : PlacedClaim) → Has (map claim_at cs) c → Has a.claims c
+  pub whole : (c : PlacedClaim) → Has a.claims c → Has (map claim_at cs) c
 
 -- ---- the commits
 
@@ -119,18 +98,6 @@ abbrev pub is_reached : Option (Writer × PartitionName) → ℕ → List Commit
 is_reached None o ms = false
 is_reached (Some k) o ms = goes_past o (reach_of ms k.0 k.1)
 
-abbrev pub seen_disagrees : Option FirstSeen → ℕ → Bool
-seen_disagrees None of = false
-seen_disagrees (Some f) of = not (of == f.of)
-
-abbrev pub place_before : Option Place → Place → Bool
-place_before None at = false
-place_before (Some p) at = is_lt (place_cmp p at)
-
-abbrev pub seen_top : Option FirstSeen → ℕ
-seen_top None = 1
-seen_top (Some f) = f.of
-
 -- ---- all of them
 
 pub record AreTables (a : Application) (t : Tables) : Type 0 where
@@ -138,5 +105,5 @@ pub record AreTables (a : Application) (t : Tables) : Type 0 where
   pub inputs : (k : LentPlace) → is_found by_place t.inputs k ≡ is_input a (place_at k)
   pub offsets : AreOffsets t.offsets a.commits
   pub reached : AreReached t.reached a.commits
-  pub firsts : AreFirsts t.firsts a.claims
-  pub places : ArePlaces t.places a.claims
+  pub apart : AreApart a
+  pub claims : AreClaims a t.claims

@@ -4,7 +4,7 @@ use Rattle.eos_verdict.specs.declared.lineage_fault.LineageFault.{LineageFault}
 use Rattle.eos_verdict.specs.declared.verdict.Fault.TheVariants.{Lineage}
 use Rattle.eos_verdict.specs.declared.verdict.Verdict.{Verdict}
 use Rattle.eos_verdict.specs.declared.verdict.Verdict.TheVariants.{No}
-use Rattle.eos_faults.proofs.LentOutputs.{take_next}
+use Rattle.eos_faults.proofs.LentOutputs.{some_at, take_next}
 use Rattle.eos_explaining.specs.steps.Counting.{IsPicked}
 use Rattle.eos_explaining.proofs.kinds.picked_in_lent.Goals as goal
 
@@ -12,13 +12,14 @@ pub loop-at-preserved : goal.loop-at-preserved
 loop-at-preserved c =
     let at = c.loop-at.at in
     let lent = c.args.faults.now in
-    let fault = c.in_ok-fault.fault in
+    let there = some_at lent at (omega (arith, c.loop-at-test.true, c.len-at-end.ensures)) in
+    let fault = there.0 in
     let told = map No (map Lineage (take at lent)) in
     let next : suc at ≡ at + 1 = omega arith in
-    let more = ap (map Lineage) (sym (take_next lent at fault c.in_ok-fault.ensures)) ∙ ap (λ (n : ℕ). map Lineage (take n lent)) next in
+    let more = ap (map Lineage) (sym (take_next lent at fault there.1)) ∙ ap (λ (n : ℕ). map Lineage (take n lent)) next in
     let is = sym (map-append No (map Lineage (take at lent)) (Lineage fault ∷ [])) ∙ ap (map No) (sym (map-append Lineage (take at lent) (fault ∷ [])) ∙ more) in (
       omega (arith, c.loop-at-test.true, c.len-at-end.ensures),
-      subst (λ (vs : List Verdict). IsPicked vs c.args.pick.from c.args.pick.most c.take.new.self) is (c.in_ok-take.ensures told c.loop-at.invariant.1),
+      subst (λ (vs : List Verdict). IsPicked vs c.args.pick.from c.args.pick.most c.take_lent.new.self) is (c.in_ok-take_lent.ensures told fault there.1 c.loop-at.invariant.1),
     )
 
 pub returns : goal.returns

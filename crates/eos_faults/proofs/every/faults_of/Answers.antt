@@ -4,8 +4,6 @@ use Rattle.eos_commits.specs.Plain.{plain_commit}
 use Rattle.eos_commits.specs.Applications.{application_of}
 use Rattle.eos_lineage.proofs.LineageLaw.{reads}
 use Rattle.eos_lineage.proofs.PartsLineage.{claims_same, inputs_same, apart}
-use Rattle.eos_faults.specs.declared.lent.VisibleClaim.{VisibleClaim}
-use Rattle.eos_faults.specs.steps.Plain.{claim_at}
 use Rattle.eos_faults.proofs.every.faults_of.Goals as goal
 
 pub returns : goal.returns
@@ -18,4 +16,4 @@ returns c = λ are.
     let commits = c.in_ok-commits.ensures.commits table.0 parts table.1 table.2 in
     c.output_faults.ensures (application_of app parts) (reads app parts) (apart app parts are) sources (c.in_ok-inputs.ensures ∙ inputs_same app.sources c.in_ok-sources.sources parts sources)
     (ap (λ (cs : List CommitRef). map plain_commit cs) c.as_slice-3.ensures.value ∙ commits)
-    (ap (λ (cs : List VisibleClaim). map claim_at cs) c.as_slice-4.ensures.value ∙ (c.in_ok-claims.ensures ∙ claims_same app.outputs c.in_ok-outputs.outputs parts outputs))
+    (c.in_ok-claims.ensures ∙ claims_same app.outputs c.in_ok-outputs.outputs parts outputs)
