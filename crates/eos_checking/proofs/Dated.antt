@@ -7,10 +7,7 @@ use Rattle.eos_verdict.specs.declared.verdict.Fault.{Fault}
 use Rattle.eos_verdict.specs.declared.verdict.Verdict.{Verdict}
 use Rattle.eos_claims.specs.declared.place.Place.{Place}
 use Rattle.eos_disk.specs.Entries.{Entry}
-use Rattle.eos_disk.specs.declared.names.Form.{Form}
-use Rattle.eos_disk.specs.Shapes.{IsShapeAt}
 use Rattle.eos_evidence.specs.declared.partition.Partition.{Partition}
-use Rattle.eos_evidence.specs.Evidence.{EvidenceParts, segments_of}
 use Rattle.eos_notes.specs.declared.note.Note.{Note}
 use Rattle.eos_notes.specs.declared.tally.Tallies.{Tallies}
 use Rattle.eos_report.specs.declared.about.About.{About}
@@ -18,7 +15,6 @@ use Rattle.eos_report.specs.declared.dates.Dates.{Dates}
 use Rattle.eos_report.specs.declared.dates.Timestamps.{Timestamps}
 use Rattle.eos_report.specs.Reports.{IsReportText}
 use Rattle.eos_source.specs.Said.{Known}
-use Rattle.eos_source.specs.Saying.{known_at}
 use Rattle.eos_checking.specs.Checking.{IsMadeIf}
 use Rattle.eos_checking.specs.declared.check.Made.{Made}
 use Rattle.eos_checking.specs.declared.check.Wanted.{Wanted}
@@ -94,10 +90,6 @@ has_dates asked wanted faults dates made is h =
 pub none_wanted : (asked : Option Wanted) (faults : List Fault) (dates : Dates) (made : Option Made) → asked ≡ None → HasDates asked faults dates made
 none_wanted asked faults dates made is =
     record { is = subst (λ (o : Option Wanted). HasReport (λ about. IsTextWith about faults dates) o made) (sym is) tt }
-
-pub dated_in : (holds : List ℕ → Entry) (folder : List ℕ) (shape : EvidenceParts) (forms : List Form) (wanted : Option Wanted) (made : Option Made) → IsShapeAt holds folder shape forms
-    → IsDated (known_at holds folder (segments_of shape.partitions) forms) shape.partitions wanted made → IsDatedIn holds folder wanted made
-dated_in holds folder shape forms wanted made is h = record { shape = shape; forms = forms; is = is; dated = h }
 
 pub dated_too : (holds : List ℕ → Entry) (folder : List ℕ) (wanted : Option Wanted) (made told : Option Made) → told ≡ made → IsDatedIn holds folder wanted made → IsDatedIn holds folder wanted told
 dated_too holds folder wanted made told same h = subst (λ (m : Option Made). IsDatedIn holds folder wanted m) (sym same) h

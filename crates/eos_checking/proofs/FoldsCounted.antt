@@ -9,6 +9,8 @@ use Rattle.eos_disk.specs.declared.names.Form.{Form}
 use Rattle.eos_ending.specs.declared.subject.Subject.{Subject}
 use Rattle.eos_evidence.specs.Evidence.{EvidenceParts, segments_of}
 use Rattle.eos_source.specs.Saying.{known_at}
+use Rattle.eos_source_check.specs.Folders.{HoldsAsRead}
+use Rattle.eos_source_check.proofs.FoldersRead.{in_folder}
 use Rattle.eos_checking.specs.Dates.{IsDated, IsDatedIn}
 use Rattle.eos_checking.specs.declared.folds.Folded.{Folded}
 use Rattle.eos_checking.specs.declared.check.Made.{Made}
@@ -16,10 +18,9 @@ use Rattle.eos_checking.specs.declared.check.Wanted.{Wanted}
 use Rattle.eos_checking.specs.declared.source.SourceAnswer.{SourceAnswer}
 use Rattle.eos_checking.specs.declared.terms.Terms.{Terms}
 use Rattle.eos_checking.specs.FoldCounts.{is_fold, fold_count, IsFoldedAt, wanted_with}
-use Rattle.eos_checking.specs.Folders.{HoldsAsRead, HoldsOf}
+use Rattle.eos_checking.specs.Folders.{HoldsOf}
 use Rattle.eos_checking.specs.Sources.{IsAnswerFor}
-use Rattle.eos_checking.proofs.Dated.{dated_in, dated_too}
-use Rattle.eos_checking.proofs.FolderAnswers.{folder_of}
+use Rattle.eos_checking.proofs.Dated.{dated_too}
 
 one : (b : Bool) (f : Form) → length (cond b (f ∷ []) []) ≡ cond b 1 0
 one true f = refl
@@ -56,12 +57,12 @@ pub answer_with : (holds : List ℕ → Entry) (folder : List ℕ) (shape : Evid
     → HoldsOf holds folder all (IsAnswerFor subject json all quiet terms (wanted_with folds about) answer)
 answer_with holds folder shape forms subject json all quiet terms folds about counting answer with is each =
     subst (λ (w : Option Wanted). HoldsOf holds folder all (IsAnswerFor subject json all quiet terms w answer)) with
-    (folder_of holds folder shape forms all (IsAnswerFor subject json all quiet terms counting answer) is each)
+    (in_folder holds folder shape forms (λ known s. HoldsAsRead known s all (IsAnswerFor subject json all quiet terms counting answer)) is each)
 
 pub dated_with : (holds : List ℕ → Entry) (folder : List ℕ) (shape : EvidenceParts) (forms : List Form) (folds : ℕ) (about counting : Option Wanted) (made : Option Made) → counting ≡ wanted_with folds about
     → IsShapeAt holds folder shape forms → IsDated (known_at holds folder (segments_of shape.partitions) forms) shape.partitions counting made → IsDatedIn holds folder (wanted_with folds about) made
 dated_with holds folder shape forms folds about counting made with is h =
-    subst (λ (w : Option Wanted). IsDatedIn holds folder w made) with (dated_in holds folder shape forms counting made is h)
+    subst (λ (w : Option Wanted). IsDatedIn holds folder w made) with (in_folder holds folder shape forms (λ known s. IsDated known s.partitions counting made) is h)
 
 -- ---- as it is told
 

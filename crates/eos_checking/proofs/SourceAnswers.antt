@@ -1,11 +1,10 @@
 -- What is told of kept logs is true of the evidence whose logs they are kept of.
-use Rattle.std.proofs.Common.{◌≡◌, ℕ, Bool, true, false, List, [], Option, is_some, refl, sym, subst, string_bytes}
+use Rattle.std.proofs.Common.{◌≡◌, ℕ, Bool, true, false, List, Option, is_some, refl, sym, subst, string_bytes}
 use Rattle.eos_verdict.specs.declared.verdict.Fault.{Fault}
 use Rattle.eos_verdict.specs.declared.verdict.Verdict.{Verdict}
 use Rattle.eos_verdict.specs.declared.verdict.Verdict.TheVariants.{Yes, No}
 use Rattle.eos_commits.specs.Faults.{AreInOrder}
 use Rattle.eos_ending.specs.declared.subject.Subject.{Subject}
-use Rattle.eos_evidence.specs.declared.partition.Partition.{Partition}
 use Rattle.eos_evidence.specs.Evidence.{EvidenceParts}
 use Rattle.eos_evidence.specs.SpecFields.{SpecFields}
 use Rattle.eos_fold.specs.Parts.{PartLog}
@@ -15,9 +14,10 @@ use Rattle.eos_kept.specs.Faults.{first_of}
 use Rattle.eos_reading.specs.Wanted.{wanted_logs}
 use Rattle.eos_source_check.proofs.KeptNotes.{whole_all_text, whole_all, kept_in_order}
 use Rattle.eos_source.specs.Said.{Known}
-use Rattle.eos_source_check.specs.Again.{AreAgain, AreThere}
 use Rattle.eos_source_check.specs.declared.judged.Judged.{Judged}
 use Rattle.eos_source_check.specs.Judged.{IsJudgedFor, IsJudgedOf}
+use Rattle.eos_source_check.specs.steps.JudgedBy.{HoldsBy}
+use Rattle.eos_source_check.proofs.FoldersRead.{by_judged, by_list, by_too, of_judged}
 use Rattle.eos_checking.specs.Checking.{AreTold}
 use Rattle.eos_checking.specs.Demands.{IsNoted}
 use Rattle.eos_checking.specs.declared.check.Wanted.{Wanted}
@@ -68,35 +68,18 @@ answer_is known shape subject json quiet terms about judged answer j t =
 
 -- ---- where all faults are told
 
--- the partitions that were read again for a list, and that the list is that of each evidence that has them
-record IsListed (known : ℕ → Known) (shape : EvidenceParts) (judged : Judged) (faults : List Fault) : Type 0 where
-  again : List (Option Partition)
-  read : AreAgain known 0 shape.partitions again
-  told : (e : EvidenceParts) → e.spec ≡ shape.spec → IsJudgedFor judged e → AreThere again e.partitions → AreTold e true judged.verdict faults
-
 listed : (known : ℕ → Known) (shape : EvidenceParts) (judged : Judged) (v : Verdict) (faults : List Fault) → judged.verdict ≡ v → AreListed known shape judged v faults
-    → IsListed known shape judged faults
+    → HoldsBy known shape judged true (λ e. AreTold e true judged.verdict faults)
 listed known shape judged (Yes counts) faults is none =
-    record { again = []; read = tt; told = λ e spec j there. subst (λ (v : Verdict). AreTold e true v faults) (sym is) none }
+    by_judged known shape judged true (λ e. AreTold e true judged.verdict faults) (λ e spec j. subst (λ (v : Verdict). AreTold e true v faults) (sym is) none)
 listed known shape judged (No first) faults is list =
-    record {
-      again = list.again;
-      read = list.read;
-      told = λ e spec j there. subst (λ (v : Verdict). AreTold e true v faults) (sym is)
-          (record { logs = j.logs.whole; of = j.logs.of; are = list.are e j.is_evidence spec j.logs there });
-    }
+    by_list known shape judged true (λ e. AreTold e true judged.verdict faults) faults refl list
+    (λ e spec j are. subst (λ (v : Verdict). AreTold e true v faults) (sym is) (record { logs = j.logs.whole; of = j.logs.of; are = are }))
 
 pub list_is : (known : ℕ → Known) (shape : EvidenceParts) (subject : Subject) (json quiet : Bool) (terms : Terms) (about : Option Wanted) (judged : Judged) (faults : List Fault) (answer : SourceAnswer)
     → IsJudgedOf known shape judged → AreListed known shape judged judged.verdict faults → TellsOf shape.spec judged faults subject json true quiet terms about answer
     → IsListAnswer known shape subject json quiet terms about answer
 list_is known shape subject json quiet terms about judged faults answer j are t =
-    let all = listed known shape judged judged.verdict faults refl are in
-    record {
-      again = all.again;
-      read = all.read;
-      are = record {
-        said = j.said;
-        as_known = j.as_known;
-        holds = λ e of there. answer_for shape e subject json true quiet terms about judged faults answer of.spec (j.holds e of) (all.told e of.spec (j.holds e of) there) t;
-      };
-    }
+    of_judged known shape judged true (IsAnswerFor subject json true quiet terms about answer) j
+    (by_too known shape judged true (λ e. AreTold e true judged.verdict faults) (IsAnswerFor subject json true quiet terms about answer)
+    (λ e spec i told. answer_for shape e subject json true quiet terms about judged faults answer spec i told t) (listed known shape judged judged.verdict faults refl are))

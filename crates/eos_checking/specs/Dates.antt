@@ -8,10 +8,7 @@ use Rattle.eos_verdict.specs.declared.verdict.Fault.TheVariants.{Partition as In
 use Rattle.eos_verdict.specs.declared.verdict.Verdict.{Verdict}
 use Rattle.eos_claims.specs.declared.place.Place.{Place}
 use Rattle.eos_disk.specs.Entries.{Entry}
-use Rattle.eos_disk.specs.declared.names.Form.{Form}
-use Rattle.eos_disk.specs.Shapes.{IsShapeAt}
 use Rattle.eos_evidence.specs.declared.partition.Partition.{Partition}
-use Rattle.eos_evidence.specs.Evidence.{EvidenceParts, segments_of}
 use Rattle.eos_verdict.specs.declared.lineage_fault.LineageFault.TheVariants as lineage
 use Rattle.eos_notes.specs.declared.note.Note.{Note}
 use Rattle.eos_notes.specs.declared.tally.Tallies.{Tallies}
@@ -20,7 +17,7 @@ use Rattle.eos_report.specs.declared.dates.Dates.{Dates}
 use Rattle.eos_report.specs.declared.dates.Timestamps.{Timestamps}
 use Rattle.eos_report.specs.Reports.{IsReportText}
 use Rattle.eos_source.specs.Said.{Known}
-use Rattle.eos_source.specs.Saying.{known_at}
+use Rattle.eos_source_check.specs.Folders.{HoldsIn}
 use Rattle.eos_source_check.specs.Times.{AreTimesNamed}
 use Rattle.eos_checking.specs.Checking.{IsMadeIf}
 use Rattle.eos_checking.specs.declared.check.Made.{Made}
@@ -107,8 +104,5 @@ pub record IsDated (known : ℕ → Known) (partitions : List Partition) (wanted
   pub is : HasReport (IsDatedText known partitions) wanted made
 
 -- by what the files of this folder say
-pub record IsDatedIn (holds : List ℕ → Entry) (folder : List ℕ) (wanted : Option Wanted) (made : Option Made) : Type 0 where
-  pub shape : EvidenceParts
-  pub forms : List Form
-  pub is : IsShapeAt holds folder shape forms
-  pub dated : IsDated (known_at holds folder (segments_of shape.partitions) forms) shape.partitions wanted made
+abbrev pub IsDatedIn : (List ℕ → Entry) → List ℕ → Option Wanted → Option Made → Type 0
+IsDatedIn holds folder wanted made = HoldsIn holds folder (λ known shape. IsDated known shape.partitions wanted made)

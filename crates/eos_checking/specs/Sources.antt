@@ -1,15 +1,14 @@
 -- What `check` tells of an evidence that is read from a source: there is what each piece said, and it is true of each evidence of
 -- this shape whose segments are such. Where all faults are told, some partitions may have been read again: then it is true of each
 -- such evidence that has these as they were read again.
-use Rattle.std.specs.Prelude.{ℕ, Bool, true, false, List, Option, string_bytes}
+use Rattle.std.specs.Prelude.{ℕ, Bool, true, false, Option, string_bytes}
 use Rattle.eos_ending.specs.declared.subject.Subject.{Subject}
 use Rattle.eos_ending.specs.Subjects.{subject_text}
-use Rattle.eos_evidence.specs.declared.partition.Partition.{Partition}
 use Rattle.eos_evidence.specs.Evidence.{EvidenceParts, IsEvidence}
 use Rattle.eos_notes.specs.Lines.{IsAllNotesText}
 use Rattle.eos_source.specs.Said.{Known}
 use Rattle.eos_source.specs.Shapes.{HoldsAsSaid}
-use Rattle.eos_source_check.specs.Again.{AreAgain, AreThere}
+use Rattle.eos_source_check.specs.Folders.{HoldsAsRead}
 use Rattle.eos_checking.specs.Checking.{IsCheckAnswer, IsReportAsked}
 use Rattle.eos_checking.specs.Demands.{IsUnmetText}
 use Rattle.eos_checking.specs.declared.check.Wanted.{Wanted}
@@ -29,7 +28,5 @@ abbrev pub IsSourceAnswer : (ℕ → Known) → EvidenceParts → Subject → Bo
 IsSourceAnswer known shape subject json quiet terms about answer = HoldsAsSaid known shape (IsAnswerFor subject json false quiet terms about answer)
 
 -- and where all are told, with each of these that has the partitions as they were read again
-pub record IsListAnswer (known : ℕ → Known) (shape : EvidenceParts) (subject : Subject) (json quiet : Bool) (terms : Terms) (about : Option Wanted) (answer : SourceAnswer) : Type 0 where
-  pub again : List (Option Partition)
-  pub read : AreAgain known 0 shape.partitions again
-  pub are : HoldsAsSaid known shape (λ evidence. AreThere again evidence.partitions → IsAnswerFor subject json true quiet terms about answer evidence)
+abbrev pub IsListAnswer : (ℕ → Known) → EvidenceParts → Subject → Bool → Bool → Terms → Option Wanted → SourceAnswer → Type 0
+IsListAnswer known shape subject json quiet terms about answer = HoldsAsRead known shape true (IsAnswerFor subject json true quiet terms about answer)

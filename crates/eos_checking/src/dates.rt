@@ -9,7 +9,6 @@ ghost use Rattle.eos_checking.specs.Dates.{record_of, claim_of, time_at, IsTimeO
 ghost use Rattle.eos_checking.specs.steps.Tables.{IsTable};
 
 use crate::check::Wanted;
-use crate::source::Pieces;
 use crate::tables::{Table, tables_of, time_told};
 use bytes::Bytes;
 use eos_base::{Listed, PartitionName, Sorted};
@@ -17,7 +16,7 @@ use eos_check::Fault;
 use eos_claims::{Place, SourceRef};
 use eos_report::{Dates, Timestamps};
 use eos_source::Source;
-use eos_source_check::{Unlisted, times_each};
+use eos_source_check::{Pieces, Unlisted, times_each};
 use eos_verdict::LineageFault;
 use std::alloc::{AllocError, Global};
 

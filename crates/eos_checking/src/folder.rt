@@ -11,21 +11,22 @@ ghost use Rattle.eos_text.specs.Writing.{WritesFront, WritesFrontOf};
 ghost use Rattle.eos_checking.specs.Checking.{IsCheckAnswer};
 ghost use Rattle.eos_checking.specs.Dates.{IsDated, IsDatedIn};
 ghost use Rattle.eos_checking.specs.FoldCounts.{IsFoldedAt, wanted_with};
-ghost use Rattle.eos_checking.specs.Folders.{IsToldOf, HoldsAsRead, HoldsOf};
+ghost use Rattle.eos_checking.specs.Folders.{IsToldOf, HoldsOf};
 ghost use Rattle.eos_checking.specs.Sources.{IsAnswerFor};
 ghost use Rattle.eos_checking.specs.Refused.{IsFirst};
 ghost use Rattle.eos_source.specs.FirstRefusals.{IsOfPieces, IsFirstOfFolder, outcomes_of, pieces_of};
 ghost use Rattle.eos_source.specs.Refusals.{AreOpened};
+ghost use Rattle.eos_source_check.specs.Folders.{HoldsAsRead};
 ghost use Rattle.eos_source_check.specs.Refusals.{IsUntold};
 ghost use Rattle.eos_checking.specs.declared.folder.Unchecked.TheVariants.{CannotWrite};
 
 use crate::check::{Asked, Said};
 use crate::folds::{Folded, folded_of, wanted_with};
 use crate::report::Timed;
-use crate::source::{Pieces, SourceAnswer, answer_all, answer_source};
+use crate::source::{SourceAnswer, answer_all, answer_source};
 use eos_disk::{Disk, FolderFault, Shape, Watch, read_shape};
 use eos_source::{FolderSource, Source};
-use eos_source_check::Unlisted;
+use eos_source_check::{Pieces, Unlisted, refusal_of};
 use eos_text::{WriteFault, finish};
 use std::alloc::Global;
 use std::io::Write;
@@ -97,10 +98,7 @@ fn answer_shape<D: Disk, T: Timed + Watch, R: Threads + Sync>(
     };
     match answer_pieces(alloc, threads, pieces, asked) {
         Ok(answer) => Ok(answer),
-        Err(Unlisted::Refused(fault)) => Err(fault),
-        Err(Unlisted::Fold(piece)) => Err(source.needs_log(alloc, piece)),
-        Err(Unlisted::Changed(piece)) => Err(source.changed(alloc, piece)),
-        Err(Unlisted::OutOfMemory) => Err(FolderFault::OutOfMemory),
+        Err(why) => Err(refusal_of(alloc, &source, why)),
     }
 }
 

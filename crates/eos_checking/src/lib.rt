@@ -18,5 +18,5 @@ pub use folder::{Folder, Unchecked, check_folder_to};
 pub use folders::{Checked, check_words, end_check};
 pub use folds::Folded;
 pub use report::Timed;
-pub use source::{Pieces, SourceAnswer, answer_all, answer_source};
+pub use source::{SourceAnswer, answer_all, answer_source};
 pub use terms::Terms;

@@ -20,22 +20,14 @@ use crate::dates::dates_if;
 use crate::report::{Timed, Told, made_of};
 use crate::terms::{exit_status, unmet_text};
 use eos_check::{Fault, Verdict};
-use eos_evidence::{Evidence, Spec};
+use eos_evidence::Spec;
 use eos_notes::{Note, all_notes};
 use eos_source::Source;
-use eos_source_check::{By, Judged, Noted, Unlisted, all_source_faults, judge_noted};
+use eos_source_check::{By, Judged, Noted, Pieces, Unlisted, all_source_faults, judge_noted};
 use eos_words::Demands;
 use std::alloc::{AllocError, Global};
 use std::slice;
 use std::thread::Threads;
-
-/// Where the pieces of an evidence are read, and which ones there are.
-#[derive(Clone, Copy)]
-pub struct Pieces<'a, S> {
-    pub source: &'a S,
-    /// The evidence, with no bytes in its segments.
-    pub shape: &'a Evidence,
-}
 
 /// The answer: what is printed, the exit status, and what else is told.
 #[derive(Drop)]

@@ -12,12 +12,11 @@ ghost use Rattle.eos_checking.specs.Dates.{IsTimeOf};
 ghost use Rattle.eos_checking.specs.steps.Tables.{IsIndex, IsTable};
 
 use crate::dates::{claim_of, name_of, record_of};
-use crate::source::Pieces;
 use eos_base::{PartitionName, Sorted, distinct_in_order};
 use eos_check::Fault;
 use eos_claims::SourceRef;
 use eos_source::Source;
-use eos_source_check::{Unlisted, times_each};
+use eos_source_check::{Pieces, Unlisted, times_each};
 use std::alloc::{AllocError, Global};
 use std::cmp::Ordering;
 use std::collections::BTreeMap;

@@ -1,5 +1,5 @@
 -- The pictures that are drawn of what was judged are those of the first faults of each evidence of which it was judged.
-use Rattle.std.proofs.Common.{◌≡◌, ◌≤◌, ◌<◌, ◌+◌, ◌-◌, ℕ, zero, suc, false, List, [], ◌∷◌, ◌++◌, Option, None, Some, String, Global, length, map, take, slice_get, inl, inr, refl, sym, ap, ◌∙◌, subst, arith, string_bytes}
+use Rattle.std.proofs.Common.{◌≡◌, ◌≤◌, ◌<◌, ◌+◌, ◌-◌, ℕ, zero, suc, List, [], ◌∷◌, ◌++◌, Option, None, Some, String, Global, length, map, take, slice_get, inl, inr, refl, sym, ap, ◌∙◌, subst, arith, string_bytes}
 use Rattle.std.specs.Prelude.{◌⊎◌}
 use Rattle.std.proofs.lemmas.Bool.{cases_lt}
 use Rattle.std.proofs.lemmas.List.{map-append, length-take}
@@ -11,15 +11,16 @@ use Rattle.eos_check.specs.Verdicts.{IsVerdict}
 use Rattle.eos_evidence.specs.declared.partition.Partition.{Partition}
 use Rattle.eos_evidence.specs.Evidence.{EvidenceParts}
 use Rattle.eos_source.specs.Said.{Known}
-use Rattle.eos_source_check.specs.Judged.{IsJudgedFor, IsJudgedOf}
+use Rattle.eos_source_check.specs.Judged.{IsJudgedFor}
 use Rattle.eos_source_check.specs.declared.judged.Judged.{Judged}
 use Rattle.eos_source_check.specs.Listed.{IsListOf}
 use Rattle.eos_source_check.proofs.FirstOfAll.{first_of_all}
+use Rattle.eos_source_check.proofs.FoldersRead.{by_judged, by_list}
 use Rattle.eos_drawing.specs.Drawings.{AreItsFaults, IsNumbered, IsShown, IsDrawing, AreTooFew}
 use Rattle.eos_drawing.specs.FirstPictures.{IsPictureText, ArePictureTexts, AreFirstPictures}
-use Rattle.eos_drawing.specs.Folders.{is_later, HoldsAsRead}
+use Rattle.eos_drawing.specs.Folders.{is_later}
 use Rattle.eos_drawing.specs.steps.Pictures.{IsTextBy, AreTextsBy, ArePicturesBy}
-use Rattle.eos_drawing.proofs.JudgedAnswers.{drawing_is, list_of, never_first}
+use Rattle.eos_drawing.proofs.JudgedAnswers.{drawing_is, later_is}
 
 -- ---- one after the other
 
@@ -90,43 +91,23 @@ so_many e all most count its many =
 
 pub of_list : (known : ℕ → Known) (shape : EvidenceParts) (judged : Judged) (most : ℕ) (all : List Fault) (ts : List (List ℕ)) → 1 < most → IsListOf known shape judged.logs all
     → AreTextsBy known shape.partitions judged (take most all) ts → ArePicturesBy known shape judged most ts
-of_list known shape judged most all ts later list by = record {
-  again = list.again;
-  once = λ first. absurd (never_first most later first);
-  read = list.read;
-  are = λ e spec j there.
-      let its = list_of known shape e judged all list spec j there in
-      record {
-        each = pictures_from known shape.partitions e judged all 0 (take most all) ts j its (λ k f is. let here : k ≡ 0 + k = omega arith in subst (λ (n : ℕ). slice_get all n ≡ Some f) here (in_front most all k f is)) by;
-        many = so_many e all most (length ts) its (as_many known shape.partitions judged (take most all) ts by);
-      };
-}
+of_list known shape judged most all ts later list by =
+    by_list known shape judged (is_later (Some most)) (λ e. AreFirstPictures known shape.partitions e most ts) all (later_is (Some most) most refl later) list (λ e spec j are.
+    let its : AreItsFaults e all = record { logs = j.logs.whole; of = j.logs.of; are = are } in
+    record {
+      each = pictures_from known shape.partitions e judged all 0 (take most all) ts j its (λ k f is. let here : k ≡ 0 + k = omega arith in subst (λ (n : ℕ). slice_get all n ≡ Some f) here (in_front most all k f is)) by;
+      many = so_many e all most (length ts) its (as_many known shape.partitions judged (take most all) ts by);
+    })
 
 pub of_first : (known : ℕ → Known) (shape : EvidenceParts) (judged : Judged) (most : ℕ) (text : List ℕ) → most ≤ 1 → (f : Fault) × (judged.verdict ≡ No f) → IsTextBy known shape.partitions judged judged.verdict text
     → ArePicturesBy known shape judged most (text ∷ [])
-of_first known shape judged most text few is by = record {
-  again = [];
-  once = λ _. refl;
-  read = tt;
-  are = λ e spec j there. record {
-    each = (text_is known shape.partitions e judged judged.verdict 1 text j (is.0, is.1, inl (omega arith, subst (IsVerdict e) is.1 j.verdict)) by, tt);
-    many = inl few;
-  };
-}
+of_first known shape judged most text few is by =
+    by_judged known shape judged (is_later (Some most)) (λ e. AreFirstPictures known shape.partitions e most (text ∷ [])) (λ e spec j. record {
+      each = (text_is known shape.partitions e judged judged.verdict 1 text j (is.0, is.1, inl (omega arith, subst (IsVerdict e) is.1 j.verdict)) by, tt);
+      many = inl few;
+    })
 
 pub of_yes : (known : ℕ → Known) (shape : EvidenceParts) (judged : Judged) (most : ℕ) (counts : Counts) → judged.verdict ≡ Yes counts → ArePicturesBy known shape judged most []
-of_yes known shape judged most counts is = record {
-  again = [];
-  once = λ _. refl;
-  read = tt;
-  are = λ e spec j there. record { each = tt; many = inr (inl (refl, counts, subst (IsVerdict e) is j.verdict)) };
-}
-
-pub as_read : (known : ℕ → Known) (shape : EvidenceParts) (judged : Judged) (most : ℕ) (ts : List (List ℕ)) → IsJudgedOf known shape judged → ArePicturesBy known shape judged most ts
-    → HoldsAsRead known shape (is_later (Some most)) (λ e. AreFirstPictures known shape.partitions e most ts)
-as_read known shape judged most ts j a = record {
-  again = a.again;
-  once = a.once;
-  read = a.read;
-  are = record { said = j.said; as_known = j.as_known; holds = λ e of there. a.are e of.spec (j.holds e of) there };
-}
+of_yes known shape judged most counts is =
+    by_judged known shape judged (is_later (Some most)) (λ e. AreFirstPictures known shape.partitions e most [])
+    (λ e spec j. record { each = tt; many = inr (inl (refl, counts, subst (IsVerdict e) is j.verdict)) })

@@ -1,5 +1,5 @@
 -- A refusal of a folder of which a picture is drawn is the first one.
-use Rattle.std.proofs.Common.{◌≡◌, ◌<◌, ◌⊎◌, inl, inr, ℕ, zero, suc, Bool, true, List, length, Option, Some, Result, Ok, Err, refl, sym, subst, arith}
+use Rattle.std.proofs.Common.{◌≡◌, inl, inr, ℕ, Bool, List, length, Option, Result, Ok, Err, refl, sym, subst}
 use Rattle.std.specs.Prelude.{⊤}
 use Rattle.eos_disk.specs.Entries.{Entry}
 use Rattle.eos_disk.specs.Paths.{manifest_path}
@@ -12,23 +12,17 @@ use Rattle.eos_disk.specs.declared.names.Form.{Form}
 use Rattle.eos_evidence.specs.declared.partition.Partition.{Partition}
 use Rattle.eos_evidence.specs.Evidence.{EvidenceParts, segments_of}
 use Rattle.eos_source.specs.FirstRefusals.{IsShapeSoFar, outcomes_of, pieces_of}
-use Rattle.eos_source.specs.FolderRefusals.{IsOfAny}
 use Rattle.eos_source.specs.Refusals.{AreOpened, IsRefusal}
 use Rattle.eos_source.specs.Said.{Known}
 use Rattle.eos_source.proofs.FirstRefusals as first
-use Rattle.eos_source_check.specs.Refusals.{IsUntold}
+use Rattle.eos_source_check.specs.Refusals.{IsUntold, IsRefusedAgain, IsRefusalFor}
 use Rattle.eos_source_check.specs.declared.fault.Unlisted.{Unlisted}
 use Rattle.eos_source_check.specs.declared.fault.Unlisted.TheVariants as unlisted
 use Rattle.eos_source_check.specs.declared.judged.Judged.{Judged}
+use Rattle.eos_source_check.proofs.FoldersRefused.{untold_of}
 use Rattle.eos_source_check.proofs.RefusalsTold.{earned_untold}
-use Rattle.eos_drawing.specs.Folders.{is_later}
 use Rattle.eos_drawing.specs.Refused.{IsFirstOfDrawing}
 use Rattle.eos_drawing.specs.steps.Undrawn.{IsAfter, IsUndrawn, IsUndrawnOf}
-
-pub later_is : (fault : Option ℕ) (number : ℕ) → fault ≡ Some number → 1 < number → is_later fault ≡ true
-later_is fault zero is lt = absurd (omega (arith, lt))
-later_is fault (suc zero) is lt = absurd (omega (arith, lt))
-later_is fault (suc (suc number)) is lt = subst (λ (f : Option ℕ). is_later f ≡ true) (sym is) refl
 
 -- ---- of a source's pieces
 
@@ -45,23 +39,17 @@ after known outcomes IsMemory shapes judged later why opened (inr again) = inr (
 
 -- ---- of a folder's pieces
 
-pub refused_of : (outcomes : ℕ → Option FolderFault → Type 0) (pieces : ℕ) (later : Bool) (why : FolderFault) → IsUndrawn outcomes (λ w. w ≡ OutOfMemory) pieces later (unlisted.Refused why)
-    → IsUndrawnOf outcomes pieces later why
-refused_of outcomes pieces later why (inl untold) = inl (first.refused_of outcomes pieces later why untold)
-refused_of outcomes pieces later why (inr again) = inr (again.0, again.1.0, again.1.1, again.1.2)
+again_of : (outcomes : ℕ → Option FolderFault → Type 0) (pieces : ℕ) (later : Bool) (why : Unlisted FolderFault) (fault : FolderFault) → AreOpened outcomes pieces → IsRefusedAgain outcomes pieces why
+    → IsRefusalFor outcomes pieces why fault → IsUndrawnOf outcomes pieces later fault
+again_of outcomes pieces later (unlisted.Refused why) fault opened again is = subst (IsUndrawnOf outcomes pieces later) (sym is) (inr (opened, again.0, again.1, again.2))
+again_of outcomes pieces later (unlisted.Fold piece) fault opened again is = absurd again
+again_of outcomes pieces later (unlisted.Changed piece) fault opened again is = absurd again
+again_of outcomes pieces later unlisted.OutOfMemory fault opened again is = inl (inl (inr is))
 
-pub fold_of : (outcomes : ℕ → Option FolderFault → Type 0) (pieces : ℕ) (later : Bool) (piece : ℕ) (why : FolderFault) → IsUndrawn outcomes (λ w. w ≡ OutOfMemory) pieces later (unlisted.Fold piece)
-    → outcomes piece (Some why) → IsUndrawnOf outcomes pieces later why
-fold_of outcomes pieces later piece why (inl untold) h = inl (first.fold_of outcomes pieces later piece why untold h)
-fold_of outcomes pieces later piece why (inr again) h = absurd again.1
-
-pub changed_of : (outcomes : ℕ → Option FolderFault → Type 0) (pieces : ℕ) (later : Bool) (piece : ℕ) (why : FolderFault) → IsUndrawn outcomes (λ w. w ≡ OutOfMemory) pieces later (unlisted.Changed piece)
-    → IsOfAny outcomes pieces why → IsUndrawnOf outcomes pieces later why
-changed_of outcomes pieces later piece why (inl untold) h = inl (first.changed_of outcomes pieces later why untold h)
-changed_of outcomes pieces later piece why (inr again) h = absurd again.1
-
-pub memory_of : (outcomes : ℕ → Option FolderFault → Type 0) (pieces : ℕ) (later : Bool) → IsUndrawnOf outcomes pieces later OutOfMemory
-memory_of outcomes pieces later = inl (first.memory_of outcomes pieces later)
+pub undrawn_of : (outcomes : ℕ → Option FolderFault → Type 0) (pieces : ℕ) (later : Bool) (why : Unlisted FolderFault) (fault : FolderFault) → IsUndrawn outcomes (λ w. w ≡ OutOfMemory) pieces later why
+    → IsRefusalFor outcomes pieces why fault → IsUndrawnOf outcomes pieces later fault
+undrawn_of outcomes pieces later why fault (inl untold) is = inl (untold_of outcomes pieces later why fault untold is)
+undrawn_of outcomes pieces later why fault (inr again) is = again_of outcomes pieces later why fault again.0 again.1 is
 
 -- ---- of a folder
 

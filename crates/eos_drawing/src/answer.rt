@@ -6,22 +6,22 @@ ghost use Rattle.std.specs.Str.{trim_end};
 ghost use Rattle.eos_verdict.specs.declared.verdict.Fault.{Fault as AFault};
 ghost use Rattle.eos_verdict.specs.declared.verdict.Verdict.TheVariants.{No};
 ghost use Rattle.eos_drawing.specs.Drawings.{fault_of, drew_line};
-ghost use Rattle.eos_drawing.specs.Folders.{is_later, HoldsAsRead};
+ghost use Rattle.eos_drawing.specs.Folders.{is_later};
 ghost use Rattle.eos_drawing.specs.steps.Answers.{IsAnswer, IsText, IsDrawnBy, IsAnswerBy};
 ghost use Rattle.eos_drawing.specs.steps.Undrawn.{IsAfter, IsUndrawn};
 ghost use Rattle.eos_verdict.specs.VerdictTexts.{verdict_line, status_of};
 ghost use Rattle.eos_source.specs.FirstRefusals.{pieces_of};
 ghost use Rattle.eos_source.specs.Refusals.{AreOpened};
 ghost use Rattle.eos_source.specs.Said.{known_by};
+ghost use Rattle.eos_source_check.specs.Folders.{HoldsAsRead};
 ghost use Rattle.eos_source_check.specs.Refusals.{IsRefusedAgain};
 
 use crate::picture::judged_picture;
 use crate::when::times_of_rows;
 use eos_base::Workers;
-use eos_evidence::Evidence;
 use eos_picture::{Picture, Times, drawing_of, svg_text};
 use eos_source::Source;
-use eos_source_check::{Judged, Unlisted, all_source_faults, judge_source};
+use eos_source_check::{Judged, Pieces, Unlisted, all_source_faults, judge_source};
 use eos_verdict::{Fault, Verdict, verdict_line};
 use std::alloc::{AllocError, Global};
 use std::thread::Threads;
@@ -56,16 +56,8 @@ pub(crate) enum Answer {
     TooFew(usize),
 }
 
-/// Where the pieces of an evidence are read, and which ones there are.
-#[derive(Clone, Copy)]
-pub(crate) struct Pieces<'a, S> {
-    pub source: &'a S,
-    /// The evidence, with no bytes in its segments.
-    pub shape: &'a Evidence,
-}
-
 /// Reads the pieces, each once, and no more of them is held than the verdict wants; then draws what is wanted.
-#[tactic(auto, using(crate::proofs::JudgedAnswers::of_judged, crate::proofs::FirstRefused::unjudged))]
+#[tactic(auto, using(eos_source_check::proofs::FoldersRead::of_judged, crate::proofs::FirstRefused::unjudged))]
 pub(crate) fn answer_source<S: Source, R: Threads + Sync>(
     alloc: Global,
     threads: &R,
@@ -87,7 +79,7 @@ pub(crate) fn answer_source<S: Source, R: Threads + Sync>(
 }
 
 /// Draws of what was judged what is wanted.
-#[tactic(auto, using(crate::proofs::JudgedAnswers::shown, crate::proofs::JudgedAnswers::none_of_yes))]
+#[tactic(auto, using(crate::proofs::JudgedAnswers::shown))]
 fn answer_judged<S: Source>(
     alloc: Global,
     pieces: Pieces<'_, S>,

@@ -4,7 +4,7 @@ ghost use Rattle.std.specs.Prelude.{◌≡◌, ◌≢◌, ℕ, IfOk, IfErr, OnEr
 ghost use Rattle.std.specs.Io.KnownBytes.{Keeps};
 ghost use Rattle.eos_disk.specs.Putting.{IsBegun};
 ghost use Rattle.eos_drawing.specs.Drawings.{AreTooFew};
-ghost use Rattle.eos_drawing.specs.Folders.{is_later, HoldsAsRead, HoldsOf, HoldsAt, IsDrawn, IsHalfDrawn, IsUntouched};
+ghost use Rattle.eos_drawing.specs.Folders.{is_later, HoldsOf, HoldsAt, IsDrawn, IsHalfDrawn, IsUntouched};
 ghost use Rattle.eos_drawing.specs.Refused.{IsFirst, IsFirstOfDrawing};
 ghost use Rattle.eos_drawing.specs.steps.Answers.{IsAnswer};
 ghost use Rattle.eos_drawing.specs.steps.Undrawn.{IsUndrawnOf};
@@ -14,14 +14,15 @@ ghost use Rattle.eos_disk.specs.Shapes.{AreKnown};
 ghost use Rattle.eos_source.specs.FirstRefusals.{outcomes_of, pieces_of};
 ghost use Rattle.eos_source.specs.Refusals.{AreOpened};
 ghost use Rattle.eos_source.specs.Saying.{known_at, StandsAt};
+ghost use Rattle.eos_source_check.specs.Folders.{HoldsAsRead};
 
-use crate::answer::{Answer, Pieces, Wanted, answer_source};
-use crate::refused::refusal_of;
+use crate::answer::{Answer, Wanted, answer_source};
 use eos_disk::{
     ChangeFault, Disk, DiskMut, FolderFault, NewFile, Shape, Watch, begin_file, drop_file,
     end_file, read_shape,
 };
 use eos_source::FolderSource;
+use eos_source_check::{Pieces, refusal_of};
 use eos_text::finish;
 use std::alloc::Global;
 use std::io::Write;
@@ -89,7 +90,7 @@ fn answer_shape<D: Disk, T: Watch, R: Threads + Sync>(
 }
 
 /// Reads a folder, and draws. No more of it is held than the verdict wants.
-#[tactic(auto, using(crate::proofs::FolderAnswers::folder_of))]
+#[tactic(auto, using(eos_source_check::proofs::FoldersRead::in_folder))]
 fn answer_folder<D: Disk, T: Watch, R: Threads + Sync>(
     alloc: Global,
     threads: &R,

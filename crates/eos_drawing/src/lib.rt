@@ -8,7 +8,6 @@ mod folder;
 pub mod laws;
 mod picture;
 mod pictures;
-mod refused;
 mod when;
 
 pub use command::draw_folder;

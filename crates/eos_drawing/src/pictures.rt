@@ -9,19 +9,19 @@ ghost use Rattle.eos_source.specs.FirstRefusals.{outcomes_of, pieces_of};
 ghost use Rattle.eos_source.specs.Refusals.{AreOpened};
 ghost use Rattle.eos_source.specs.Said.{known_by};
 ghost use Rattle.eos_source.specs.Saying.{known_at, StandsAt};
+ghost use Rattle.eos_source_check.specs.Folders.{HoldsAsRead};
 ghost use Rattle.eos_source_check.specs.Refusals.{IsRefusedAgain};
 ghost use Rattle.eos_drawing.specs.FirstPictures.{AreFirstPictures};
-ghost use Rattle.eos_drawing.specs.Folders.{is_later, HoldsAsRead, HoldsAt, HoldsOf};
+ghost use Rattle.eos_drawing.specs.Folders.{is_later, HoldsAt, HoldsOf};
 ghost use Rattle.eos_drawing.specs.Refused.{IsFirstOfDrawing};
 ghost use Rattle.eos_drawing.specs.steps.Pictures.{IsTextBy, AreTextsBy, ArePicturesBy};
 ghost use Rattle.eos_drawing.specs.steps.Undrawn.{IsAfter, IsUndrawn, IsUndrawnOf};
 
-use crate::answer::{Pieces, Wanted, drawn_of};
-use crate::refused::refusal_of;
+use crate::answer::{Wanted, drawn_of};
 use eos_base::Workers;
 use eos_disk::{Disk, FolderFault, Shape, Watch, read_shape};
 use eos_source::{FolderSource, Source};
-use eos_source_check::{Judged, Unlisted, all_source_faults, judge_source};
+use eos_source_check::{Judged, Pieces, Unlisted, all_source_faults, judge_source, refusal_of};
 use eos_verdict::{Fault, Verdict};
 use std::alloc::Global;
 use std::thread::Threads;
@@ -143,7 +143,7 @@ fn of_judged<S: Source>(
 }
 
 /// Reads the pieces, each once, and draws.
-#[tactic(auto, using(crate::proofs::FirstOnes::as_read, crate::proofs::FirstRefused::unjudged))]
+#[tactic(auto, using(eos_source_check::proofs::FoldersRead::of_judged, crate::proofs::FirstRefused::unjudged))]
 fn of_source<S: Source, R: Threads + Sync>(
     alloc: Global,
     threads: &R,

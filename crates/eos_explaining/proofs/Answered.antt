@@ -1,5 +1,5 @@
 -- What is told of what was judged is so of each evidence of which it was judged.
-use Rattle.std.proofs.Common.{◌≡◌, ◌<◌, ◌≤◌, ◌-◌, ◌∙◌, ℕ, List, [], ◌∷◌, length, map, take, slice_get, Some, refl, sym, ap, subst, arith, string_bytes}
+use Rattle.std.proofs.Common.{◌≡◌, ◌<◌, ◌≤◌, ◌-◌, ◌∙◌, ℕ, true, List, [], ◌∷◌, length, map, take, slice_get, Some, refl, sym, ap, subst, arith, string_bytes}
 use Rattle.std.specs.Prelude.{◌⊎◌}
 use Rattle.std.proofs.lemmas.List.{length-map}
 use Rattle.eos_commits.specs.EvidenceLogs.{AreLogsOf}
@@ -9,9 +9,10 @@ use Rattle.eos_fold.specs.Parts.{PartLog}
 use Rattle.eos_notes.specs.Notes.{AreAllNotes}
 use Rattle.eos_reading.specs.Wanted.{wanted_logs}
 use Rattle.eos_source.specs.Said.{Known}
-use Rattle.eos_source_check.specs.Again.{AreThere}
+use Rattle.eos_source_check.specs.AllFaults.{AreAllFaults}
 use Rattle.eos_source_check.specs.Judged.{IsJudgedFor, IsJudgedOf}
 use Rattle.eos_source_check.specs.declared.judged.Judged.{Judged}
+use Rattle.eos_source_check.proofs.FoldersRead as folders
 use Rattle.eos_verdict.specs.declared.verdict.Verdict.{Verdict}
 use Rattle.eos_verdict.specs.declared.verdict.Verdict.TheVariants.{No}
 use Rattle.eos_verdict.specs.Counts.{counts_line}
@@ -21,23 +22,20 @@ use Rattle.eos_explaining.specs.declared.story.About.{About}
 use Rattle.eos_explaining.specs.Explaining.{AreTold, AreSeen, IsTheStory}
 use Rattle.eos_explaining.specs.steps.Tellings.{IsAnswer}
 use Rattle.eos_explaining.specs.FirstStories.{AreStoriesOf, AreFirstStories}
-use Rattle.eos_explaining.specs.Folders.{AreRead, HasThem, HoldsAsRead}
-use Rattle.eos_explaining.specs.steps.Again.{AreKept, IsToldBy, AreToldBy}
-use Rattle.eos_explaining.specs.steps.Found.{AreFoundBy, HoldsBy}
+use Rattle.eos_explaining.specs.Folders.{AreRead, HasThem, HoldsAsNamed}
+use Rattle.eos_explaining.specs.steps.Again.{AreKept, ReadsMore, IsToldBy, AreToldBy}
+use Rattle.eos_explaining.specs.steps.Found.{AreFoundBy, HoldsByNamed}
+use Rattle.eos_explaining.proofs.Covered.{are_read}
 use Rattle.eos_explaining.proofs.PickedFaults.{picked_first, picked_one}
 
-pub of_judged : (known : ℕ → Known) (shape : EvidenceParts) (judged : Judged) (Holds : EvidenceParts → Type 0) → IsJudgedOf known shape judged → HoldsBy known shape judged Holds → HoldsAsRead known shape Holds
-of_judged known shape judged Holds j h = record {
-  again = h.again;
-  listed = h.listed;
-  read = h.read;
-  named = h.named;
-  are = record { said = j.said; as_known = j.as_known; holds = λ e of there has. h.are e of.spec (j.holds e of) there has };
-}
+pub of_judged : (known : ℕ → Known) (shape : EvidenceParts) (judged : Judged) (Holds : EvidenceParts → Type 0) → IsJudgedOf known shape judged → HoldsByNamed known shape judged Holds → HoldsAsNamed known shape Holds
+of_judged known shape judged Holds j h =
+    record { read = h.read; named = h.named; are = folders.of_judged known shape judged true (λ e. HasThem e h.read → Holds e) j h.are }
 
 -- what needs no partition once more
-pub by_judged : (known : ℕ → Known) (shape : EvidenceParts) (judged : Judged) (Holds : EvidenceParts → Type 0) → ((e : EvidenceParts) → e.spec ≡ shape.spec → IsJudgedFor judged e → Holds e) → HoldsBy known shape judged Holds
-by_judged known shape judged Holds h = record { again = []; listed = tt; read = []; named = λ p has. absurd has; are = λ e spec j there has. h e spec j }
+pub by_judged : (known : ℕ → Known) (shape : EvidenceParts) (judged : Judged) (Holds : EvidenceParts → Type 0) → ((e : EvidenceParts) → e.spec ≡ shape.spec → IsJudgedFor judged e → Holds e) → HoldsByNamed known shape judged Holds
+by_judged known shape judged Holds h =
+    record { read = []; named = λ p has. absurd has; are = folders.by_judged known shape judged true (λ e. HasThem e [] → Holds e) (λ e spec j has. h e spec j) }
 
 -- the logs as stories see them, of each evidence that has what was read for them
 abbrev pub Sees : EvidenceParts → List Partition → List PartLog → List PartLog → Type 0
@@ -47,6 +45,9 @@ pub them_before : (e : EvidenceParts) (before after : List Partition) → AreKep
 them_before e before after kept has = λ p here. has p (kept p here)
 
 module _ (known : ℕ → Known) (shape : EvidenceParts) (judged : Judged) where
+  all_read : (seen read : List Partition) → ReadsMore known shape.partitions [] seen → ReadsMore known shape.partitions seen read → AreRead known shape.partitions read
+  all_read seen read first more = are_read known shape.partitions seen read (are_read known shape.partitions [] seen (λ p has. absurd has) first) more
+
   -- ---- one fault
 
   pub one_held : (number : ℕ) (found : Findings) → AreFoundBy known shape judged (number - 1) 1 found → 0 < number → number ≤ found.all → length found.told.items ≡ 1
@@ -58,45 +59,41 @@ module _ (known : ℕ → Known) (shape : EvidenceParts) (judged : Judged) where
   pub held_is : (number : ℕ) (found : Findings) (v : Verdict) (f : AreFoundBy known shape judged (number - 1) 1 found) → slice_get found.told.items 0 ≡ Some v → slice_get (map No f.faults) (number - 1) ≡ Some v
   held_is number found v f at = sym (picked_first (number - 1) (map No f.faults)) ∙ (ap (λ (vs : List Verdict). slice_get vs 0) (sym f.held) ∙ at)
 
-  told_all : (e : EvidenceParts) (from most : ℕ) (found : Findings) (f : AreFoundBy known shape judged from most found) → e.spec ≡ shape.spec → (j : IsJudgedFor judged e) → AreThere f.again e.partitions → AreTold e j.logs.whole (map No f.faults)
-  told_all e from most found f spec j there = record { faults = f.faults; of = j.logs.of; are = f.are e spec j there; named = refl }
+  told_all : (e : EvidenceParts) (from most : ℕ) (found : Findings) (f : AreFoundBy known shape judged from most found) (j : IsJudgedFor judged e) → AreAllFaults e j.logs.whole j.logs.of f.faults → AreTold e j.logs.whole (map No f.faults)
+  told_all e from most found f j are = record { faults = f.faults; of = j.logs.of; are = are; named = refl }
 
-  pub fewer_by : (folder : List ℕ) (number : ℕ) (from : ℕ) (found : Findings) → AreFoundBy known shape judged from 1 found → (number ≡ 0) ⊎ (found.all < number) → HoldsBy known shape judged (λ e. IsAnswer folder e number (answers.Fewer found.all))
+  pub fewer_by : (folder : List ℕ) (number : ℕ) (from : ℕ) (found : Findings) → AreFoundBy known shape judged from 1 found → (number ≡ 0) ⊎ (found.all < number) → HoldsByNamed known shape judged (λ e. IsAnswer folder e number (answers.Fewer found.all))
   fewer_by folder number from found f few = record {
-    again = f.again;
-    listed = f.read;
     read = [];
     named = λ p has. absurd has;
-    are = λ e spec j there has. record {
+    are = folders.by_list known shape judged true (λ e. HasThem e [] → IsAnswer folder e number (answers.Fewer found.all)) f.faults refl f.list (λ e spec j are has. record {
       logs = j.logs.whole;
       told = map No f.faults;
-      are = told_all e from 1 found f spec j there;
+      are = told_all e from 1 found f j are;
       counted = f.all ∙ sym (length-map f.faults No);
       fewer = few;
-    };
+    });
   }
 
   pub story_by : (number : ℕ) (found : Findings) (seen read : List Partition) (about : About) (verdict : Verdict) (text : List ℕ) → AreFoundBy known shape judged (number - 1) 1 found → 0 < number
-      → slice_get found.told.items 0 ≡ Some verdict → about.notes.now ≡ found.notes.items → about.counts.now ≡ string_bytes found.line → AreRead known shape.partitions read → AreKept seen read
+      → slice_get found.told.items 0 ≡ Some verdict → about.notes.now ≡ found.notes.items → about.counts.now ≡ string_bytes found.line → ReadsMore known shape.partitions [] seen → ReadsMore known shape.partitions seen read
       → Sees shape seen judged.logs.parts.items about.logs.now → IsToldBy shape read about verdict text
-      → HoldsBy known shape judged (λ e. IsTheStory about.folder.now e number text)
-  story_by number found seen read about verdict text f first at notes counts named kept sees told = record {
-    again = f.again;
-    listed = f.read;
+      → HoldsByNamed known shape judged (λ e. IsTheStory about.folder.now e number text)
+  story_by number found seen read about verdict text f first at notes counts first_read more sees told = record {
     read = read;
-    named = named;
-    are = λ e spec j there has. record {
+    named = all_read seen read first_read more;
+    are = folders.by_list known shape judged true (λ e. HasThem e read → IsTheStory about.folder.now e number text) f.faults refl f.list (λ e spec j are has. record {
       logs = j.logs.whole;
       told = map No f.faults;
-      are = told_all e (number - 1) 1 found f spec j there;
+      are = told_all e (number - 1) 1 found f j are;
       before = number - 1;
       numbered = omega (arith, first);
       verdict = verdict;
       at = held_is number found verdict f at;
       seen = about.logs.now;
-      sees = sees e j.logs.whole j.is_evidence spec (them_before e seen read kept has) j.logs.of j.logs.parts;
+      sees = sees e j.logs.whole j.is_evidence spec (them_before e seen read more.kept has) j.logs.of j.logs.parts;
       story = told e j.is_evidence spec has (subst (AreAllNotes e) (sym notes) (f.notes e spec j)) (map No f.faults) (counts ∙ f.line);
-    };
+    });
   }
 
   -- ---- the first ones
@@ -109,20 +106,18 @@ module _ (known : ℕ → Known) (shape : EvidenceParts) (judged : Judged) where
   stories_of e read about all (v ∷ vs) (t ∷ ts) is spec has notes counts told = (told.0 e is spec has notes all counts, stories_of e read about all vs ts is spec has notes counts told.1)
 
   pub stories_by : (most : ℕ) (found : Findings) (seen read : List Partition) (about : About) (texts : List (List ℕ)) → AreFoundBy known shape judged 0 most found → about.notes.now ≡ found.notes.items → about.counts.now ≡ string_bytes found.line
-      → AreRead known shape.partitions read → AreKept seen read → Sees shape seen judged.logs.parts.items about.logs.now → AreToldBy shape read about found.told.items texts
-      → HoldsBy known shape judged (λ e. AreFirstStories about.folder.now e most texts)
-  stories_by most found seen read about texts f notes counts named kept sees told = record {
-    again = f.again;
-    listed = f.read;
+      → ReadsMore known shape.partitions [] seen → ReadsMore known shape.partitions seen read → Sees shape seen judged.logs.parts.items about.logs.now → AreToldBy shape read about found.told.items texts
+      → HoldsByNamed known shape judged (λ e. AreFirstStories about.folder.now e most texts)
+  stories_by most found seen read about texts f notes counts first_read more sees told = record {
     read = read;
-    named = named;
-    are = λ e spec j there has. record {
+    named = all_read seen read first_read more;
+    are = folders.by_list known shape judged true (λ e. HasThem e read → AreFirstStories about.folder.now e most texts) f.faults refl f.list (λ e spec j are has. record {
       logs = j.logs.whole;
       told = map No f.faults;
-      are = told_all e 0 most found f spec j there;
+      are = told_all e 0 most found f j are;
       seen = about.logs.now;
-      sees = sees e j.logs.whole j.is_evidence spec (them_before e seen read kept has) j.logs.of j.logs.parts;
+      sees = sees e j.logs.whole j.is_evidence spec (them_before e seen read more.kept has) j.logs.of j.logs.parts;
       each = stories_of e read about (map No f.faults) (take most (map No f.faults)) texts j.is_evidence spec has (subst (AreAllNotes e) (sym notes) (f.notes e spec j)) (counts ∙ f.line)
           (subst (λ (vs : List Verdict). AreToldBy shape read about vs texts) f.held told);
-    };
+    });
   }

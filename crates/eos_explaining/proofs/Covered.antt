@@ -15,13 +15,28 @@ use Rattle.eos_story.specs.Names.{name_in}
 use Rattle.eos_story.specs.steps.Same.{IsSameOf}
 use Rattle.eos_story.specs.declared.row.Row.{Row}
 use Rattle.eos_explaining.specs.Folders.{AreRead, HasThem}
-use Rattle.eos_explaining.specs.steps.Again.{IsCovered, IsCoveredIf, AreCovered, AreKept, SettledIf}
+use Rattle.eos_explaining.specs.steps.Again.{IsCovered, IsCoveredIf, AreCovered, ReadsMore, SettledIf}
 use Rattle.eos_explaining.proofs.OwnNames.{found_has, found_is, named_is, same_ends_named}
 
 -- ---- one that is read
 
-pub kept_all : (xs : List Partition) → AreKept xs xs
-kept_all xs = λ p has. has
+pub none_more : (known : ℕ → Known) (shapes xs : List Partition) → ReadsMore known shapes xs xs
+none_more known shapes xs = record { kept = λ p has. has; come = λ p has. inl has }
+
+pub more_still : (known : ℕ → Known) (shapes first before after : List Partition) → ReadsMore known shapes first before → ReadsMore known shapes before after → ReadsMore known shapes first after
+more_still known shapes first before after h k = record {
+  kept = λ p has. k.kept p (h.kept p has);
+  come = λ p has. elim (k.come p has) [
+    | inl old ↦ h.come p old
+    | inr is ↦ inr is
+  ];
+}
+
+pub are_read : (known : ℕ → Known) (shapes before after : List Partition) → AreRead known shapes before → ReadsMore known shapes before after → AreRead known shapes after
+are_read known shapes before after were h = λ p has. elim (h.come p has) [
+  | inl old ↦ were p old
+  | inr is ↦ is
+]
 
 has_before : (xs : List Partition) (x p : Partition) → Has xs p → Has (xs ++ x ∷ []) p
 has_before [] x p h = absurd h
@@ -37,9 +52,6 @@ has_either (y ∷ ys) x p (inr h) = elim (has_either ys x p h) [
   | inr is ↦ inr is
 ]
 
-pub kept_more : (xs all : List Partition) (x : Partition) → all ≡ xs ++ x ∷ [] → AreKept xs all
-kept_more xs all x is = λ p has. subst (λ (ps : List Partition). Has ps p) (sym is) (has_before xs x p has)
-
 named_if : (known : ℕ → Known) (piece : ℕ) (shape : Partition) (shapes : List Partition) (name : PartitionName) (p : Partition) (b : Bool) → b ≡ is_named name shape
     → (IsNamedAgain known (piece + length shape.segments) shapes name (Some p) → is_named name p ≡ true)
     → IsReadIf b (IsReadOf known piece shape (Some p)) (IsNamedAgain known (piece + length shape.segments) shapes name (Some p)) → is_named name p ≡ true
@@ -53,13 +65,16 @@ named_again known piece [] name p again = absurd cc
 named_again known piece (shape ∷ shapes) name p again =
     named_if known piece shape shapes name p (is_named name shape) refl (named_again known (piece + length shape.segments) shapes name p) again
 
-pub one_more : (known : ℕ → Known) (shapes xs all : List Partition) (name : PartitionName) (x : Partition) → AreRead known shapes xs → IsNamedAgain known 0 shapes name (Some x) → all ≡ xs ++ x ∷ [] → AreRead known shapes all
-one_more known shapes xs all name x were again is = λ p has.
+pub one_more : (known : ℕ → Known) (shapes xs all : List Partition) (name : PartitionName) (x : Partition) → IsNamedAgain known 0 shapes name (Some x) → all ≡ xs ++ x ∷ [] → ReadsMore known shapes xs all
+one_more known shapes xs all name x again is =
     let own : IsRead known shapes x = subst (λ (n : PartitionName). IsNamedAgain known 0 shapes n (Some x)) (named_is name x (named_again known 0 shapes name x again)) again in
-    elim (has_either xs x p (subst (λ (ps : List Partition). Has ps p) is has)) [
-      | inl before ↦ were p before
-      | inr same ↦ subst (IsRead known shapes) same own
-    ]
+    record {
+      kept = λ p has. subst (λ (ps : List Partition). Has ps p) (sym is) (has_before xs x p has);
+      come = λ p has. elim (has_either xs x p (subst (λ (ps : List Partition). Has ps p) is has)) [
+        | inl before ↦ inl before
+        | inr same ↦ inr (subst (IsRead known shapes) same own)
+      ];
+    }
 
 -- ---- names that are covered
 

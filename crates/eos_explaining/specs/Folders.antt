@@ -1,20 +1,16 @@
--- What `explain` writes of the evidence in a folder, and what it tells. Some partitions are read again: of a disk of which nothing is known
--- it is true of an evidence that has these as they were read again.
-use Rattle.std.specs.Prelude.{◌≡◌, ◌⊎◌, ℕ, List, Option, None, Some, string_bytes}
+-- What `explain` writes of the evidence in a folder, and what it tells.
+use Rattle.std.specs.Prelude.{◌≡◌, ◌⊎◌, ℕ, true, List, Option, None, Some, string_bytes}
 use Rattle.std.specs.Io.KnownBytes.{Appends, Keeps}
 use Rattle.eos_verdict.specs.declared.verdict.Counts.{Counts}
 use Rattle.eos_verdict.specs.declared.verdict.Verdict.TheVariants.{Yes}
 use Rattle.eos_check.specs.Verdicts.{IsVerdict}
 use Rattle.eos_base.specs.Members.{Has}
 use Rattle.eos_disk.specs.Entries.{Entry}
-use Rattle.eos_disk.specs.Shapes.{IsShapeAt}
-use Rattle.eos_disk.specs.declared.names.Form.{Form}
 use Rattle.eos_evidence.specs.declared.partition.Partition.{Partition}
-use Rattle.eos_evidence.specs.Evidence.{EvidenceParts, segments_of}
+use Rattle.eos_evidence.specs.Evidence.{EvidenceParts}
 use Rattle.eos_source.specs.Said.{Known}
-use Rattle.eos_source.specs.Saying.{known_at}
-use Rattle.eos_source.specs.Shapes.{HoldsAsSaid}
-use Rattle.eos_source_check.specs.Again.{AreAgain, AreThere, IsRead, IsThere}
+use Rattle.eos_source_check.specs.Again.{IsRead, IsThere}
+use Rattle.eos_source_check.specs.Folders.{HoldsAsRead, HoldsIn}
 use Rattle.eos_text.specs.Writing.{WritesFront}
 use Rattle.eos_explaining.specs.declared.folder.Explained.{Explained}
 use Rattle.eos_explaining.specs.declared.folder.Explained.TheVariants as told
@@ -54,16 +50,11 @@ HasThem e read = (p : Partition) → Has read p → IsThere e.partitions p
 
 -- so it is with each evidence of this shape whose segments are such as the pieces said, and which has the partitions as they were read
 -- again: those with faults by themselves, and those that the story names
-pub record HoldsAsRead (known : ℕ → Known) (shape : EvidenceParts) (Holds : EvidenceParts → Type 0) : Type 0 where
-  pub again : List (Option Partition)
-  pub listed : AreAgain known 0 shape.partitions again
+pub record HoldsAsNamed (known : ℕ → Known) (shape : EvidenceParts) (Holds : EvidenceParts → Type 0) : Type 0 where
   pub read : List Partition
   pub named : AreRead known shape.partitions read
-  pub are : HoldsAsSaid known shape (λ e. AreThere again e.partitions → HasThem e read → Holds e)
+  pub are : HoldsAsRead known shape true (λ e. HasThem e read → Holds e)
 
--- a shape stands in this folder, and so it is with each evidence of it whose segments are such as their files say
-pub record HoldsOf (holds : List ℕ → Entry) (folder : List ℕ) (Holds : EvidenceParts → Type 0) : Type 0 where
-  pub shape : EvidenceParts
-  pub forms : List Form
-  pub is : IsShapeAt holds folder shape forms
-  pub each : HoldsAsRead (known_at holds folder (segments_of shape.partitions) forms) shape Holds
+-- so it is in this folder
+abbrev pub HoldsOf : (List ℕ → Entry) → List ℕ → (EvidenceParts → Type 0) → Type 0
+HoldsOf holds folder Holds = HoldsIn holds folder (λ known shape. HoldsAsNamed known shape Holds)

@@ -7,25 +7,16 @@ ghost use Rattle.eos_claims.specs.declared.place.Place.{Place as At};
 ghost use Rattle.eos_evidence.specs.Evidence.{segments_of};
 ghost use Rattle.eos_source.specs.Said.{known_by};
 ghost use Rattle.eos_source_check.specs.Refusals.{IsUnread};
-ghost use Rattle.eos_explaining.specs.Folders.{AreRead};
-ghost use Rattle.eos_explaining.specs.steps.Again.{IsCovered, IsCoveredIf, AreCovered, AreKept, SettledIf};
+ghost use Rattle.eos_explaining.specs.steps.Again.{IsCovered, IsCoveredIf, AreCovered, ReadsMore, SettledIf};
 
 use eos_base::PartitionName;
 use eos_claims::Place;
-use eos_evidence::{Evidence, Partition};
+use eos_evidence::Partition;
 use eos_sought::partition_named;
 use eos_source::Source;
-use eos_source_check::{Unlisted, partition_again};
+use eos_source_check::{Pieces, Unlisted, partition_again};
 use eos_story::{Row, name_in};
 use std::alloc::Global;
-
-/// Where the pieces of an evidence are read, and which ones there are.
-#[derive(Clone, Copy)]
-pub(crate) struct Pieces<'a, S> {
-    pub(crate) source: &'a S,
-    /// The evidence, with no bytes in its segments.
-    pub(crate) shape: &'a Evidence,
-}
 
 /// Reads the partition of this name, which wasn't read before, if there is one. Whether there is.
 fn read_new<S: Source>(
@@ -34,10 +25,8 @@ fn read_new<S: Source>(
     read: &mut Vec<Partition>,
     name: &PartitionName,
 ) -> Result<bool, Unlisted<S::Fault>>
-    requires read { AreRead (known_by (S.said pieces.now.source.now) (S.is_log pieces.now.source.now)) pieces.now.shape.now.partitions read.old.items }
-    requires unread { partition_named name.now read.old.items ≡ None }
-    ensures read { OnOk result (AreRead (known_by (S.said pieces.now.source.now) (S.is_log pieces.now.source.now)) pieces.now.shape.now.partitions read.new.items) }
-    ensures kept { OnOk result (AreKept read.old.items read.new.items) }
+    requires { partition_named name.now read.old.items ≡ None }
+    ensures more { OnOk result (ReadsMore (known_by (S.said pieces.now.source.now) (S.is_log pieces.now.source.now)) pieces.now.shape.now.partitions read.old.items read.new.items) }
     ensures same { IfOk result (λ more. more ≡ false → read.new.items ≡ read.old.items) }
     ensures covered { OnOk result (IsCovered pieces.now.shape.now.partitions read.new.items name.now) }
     ensures unread { IfErr result (IsUnread (S.outcomes pieces.now.source.now) (length (segments_of pieces.now.shape.now.partitions))) }
@@ -58,9 +47,7 @@ pub(crate) fn read_name<S: Source>(
     read: &mut Vec<Partition>,
     name: &PartitionName,
 ) -> Result<bool, Unlisted<S::Fault>>
-    requires { AreRead (known_by (S.said pieces.now.source.now) (S.is_log pieces.now.source.now)) pieces.now.shape.now.partitions read.old.items }
-    ensures read { OnOk result (AreRead (known_by (S.said pieces.now.source.now) (S.is_log pieces.now.source.now)) pieces.now.shape.now.partitions read.new.items) }
-    ensures kept { OnOk result (AreKept read.old.items read.new.items) }
+    ensures more { OnOk result (ReadsMore (known_by (S.said pieces.now.source.now) (S.is_log pieces.now.source.now)) pieces.now.shape.now.partitions read.old.items read.new.items) }
     ensures same { IfOk result (λ more. more ≡ false → read.new.items ≡ read.old.items) }
     ensures covered { OnOk result (IsCovered pieces.now.shape.now.partitions read.new.items name.now) }
     ensures unread { IfErr result (IsUnread (S.outcomes pieces.now.source.now) (length (segments_of pieces.now.shape.now.partitions))) }
@@ -81,9 +68,7 @@ pub(crate) fn read_if<S: Source>(
     read: &mut Vec<Partition>,
     name: Option<&PartitionName>,
 ) -> Result<bool, Unlisted<S::Fault>>
-    requires { AreRead (known_by (S.said pieces.now.source.now) (S.is_log pieces.now.source.now)) pieces.now.shape.now.partitions read.old.items }
-    ensures read { OnOk result (AreRead (known_by (S.said pieces.now.source.now) (S.is_log pieces.now.source.now)) pieces.now.shape.now.partitions read.new.items) }
-    ensures kept { OnOk result (AreKept read.old.items read.new.items) }
+    ensures more { OnOk result (ReadsMore (known_by (S.said pieces.now.source.now) (S.is_log pieces.now.source.now)) pieces.now.shape.now.partitions read.old.items read.new.items) }
     ensures covered { IfOk result (SettledIf read.old.items read.new.items (λ all. IsCoveredIf pieces.now.shape.now.partitions all (option_copied name.entry))) }
     ensures unread { IfErr result (IsUnread (S.outcomes pieces.now.source.now) (length (segments_of pieces.now.shape.now.partitions))) }
 {
@@ -103,9 +88,7 @@ pub(crate) fn read_own<S: Source>(
     read: &mut Vec<Partition>,
     place: Option<&Place>,
 ) -> Result<bool, Unlisted<S::Fault>>
-    requires { AreRead (known_by (S.said pieces.now.source.now) (S.is_log pieces.now.source.now)) pieces.now.shape.now.partitions read.old.items }
-    ensures read { OnOk result (AreRead (known_by (S.said pieces.now.source.now) (S.is_log pieces.now.source.now)) pieces.now.shape.now.partitions read.new.items) }
-    ensures kept { OnOk result (AreKept read.old.items read.new.items) }
+    ensures more { OnOk result (ReadsMore (known_by (S.said pieces.now.source.now) (S.is_log pieces.now.source.now)) pieces.now.shape.now.partitions read.old.items read.new.items) }
     ensures covered { IfOk result (SettledIf read.old.items read.new.items (λ all. IsCoveredIf pieces.now.shape.now.partitions all (option_map (λ (p : At). p.partition) (option_copied place.entry)))) }
     ensures unread { IfErr result (IsUnread (S.outcomes pieces.now.source.now) (length (segments_of pieces.now.shape.now.partitions))) }
 {
@@ -125,9 +108,7 @@ pub(crate) fn read_rows<S: Source>(
     read: &mut Vec<Partition>,
     rows: &[Row],
 ) -> Result<bool, Unlisted<S::Fault>>
-    requires { AreRead (known_by (S.said pieces.now.source.now) (S.is_log pieces.now.source.now)) pieces.now.shape.now.partitions read.old.items }
-    ensures read { OnOk result (AreRead (known_by (S.said pieces.now.source.now) (S.is_log pieces.now.source.now)) pieces.now.shape.now.partitions read.new.items) }
-    ensures kept { OnOk result (AreKept read.old.items read.new.items) }
+    ensures more { OnOk result (ReadsMore (known_by (S.said pieces.now.source.now) (S.is_log pieces.now.source.now)) pieces.now.shape.now.partitions read.old.items read.new.items) }
     ensures covered { IfOk result (SettledIf read.old.items read.new.items (λ all. AreCovered pieces.now.shape.now.partitions all rows.now)) }
     ensures unread { IfErr result (IsUnread (S.outcomes pieces.now.source.now) (length (segments_of pieces.now.shape.now.partitions))) }
 {

@@ -11,11 +11,10 @@ ghost use Rattle.eos_source_check.specs.Judged.{IsJudgedFor};
 ghost use Rattle.eos_source_check.specs.Refusals.{IsEarned, IsUnread, IsUntold};
 ghost use Rattle.eos_explaining.specs.Explaining.{IsTheStory};
 ghost use Rattle.eos_explaining.specs.steps.Tellings.{IsAnswer};
-ghost use Rattle.eos_explaining.specs.Folders.{HoldsAsRead};
-ghost use Rattle.eos_explaining.specs.steps.Found.{AreFoundBy, HoldsBy};
+ghost use Rattle.eos_explaining.specs.Folders.{HoldsAsNamed};
+ghost use Rattle.eos_explaining.specs.steps.Found.{AreFoundBy, HoldsByNamed};
 ghost use Rattle.eos_explaining.specs.steps.Untold.{IsAfter};
 
-use crate::again::Pieces;
 use crate::kinds::{Pick, line_of, picked_of};
 use crate::seen::{parts_of, seen_logs};
 use crate::story::{About, story_of};
@@ -24,7 +23,7 @@ use eos_check::Verdict;
 use eos_evidence::Spec;
 use eos_notes::{Note, all_lines, all_notes};
 use eos_source::Source;
-use eos_source_check::{Judged, Unlisted, all_faults, judge_source};
+use eos_source_check::{Judged, Pieces, Unlisted, all_faults, judge_source};
 use eos_verdict::verdict_line;
 use std::alloc::{AllocError, Global};
 use std::thread::Threads;
@@ -134,7 +133,7 @@ fn told_of_number<S: Source>(
     requires found { AreFoundBy (known_by (S.said pieces.now.source.now) (S.is_log pieces.now.source.now)) pieces.now.shape.now judged (asked.now.number - 1) 1 found.now }
     requires first { 0 < asked.now.number }
     requires inside { asked.now.number ≤ found.now.all }
-    ensures told { IfOk result (λ text. HoldsBy (known_by (S.said pieces.now.source.now) (S.is_log pieces.now.source.now)) pieces.now.shape.now judged (λ e. IsTheStory asked.now.folder.now e asked.now.number (string_bytes text))) }
+    ensures told { IfOk result (λ text. HoldsByNamed (known_by (S.said pieces.now.source.now) (S.is_log pieces.now.source.now)) pieces.now.shape.now judged (λ e. IsTheStory asked.now.folder.now e asked.now.number (string_bytes text))) }
     ensures unread { IfErr result (IsUnread (S.outcomes pieces.now.source.now) (pieces_of pieces.now.shape.now)) }
 {
     let mut read = Vec::new(alloc);
@@ -157,7 +156,7 @@ fn told_no<S: Source>(
     judged: Judged,
     asked: &Asked<'_>,
 ) -> Result<Answer, Unlisted<S::Fault>>
-    ensures answer { IfOk result (λ answer. HoldsBy (known_by (S.said pieces.now.source.now) (S.is_log pieces.now.source.now)) pieces.now.shape.now judged (λ e. IsAnswer asked.now.folder.now e asked.now.number answer)) }
+    ensures answer { IfOk result (λ answer. HoldsByNamed (known_by (S.said pieces.now.source.now) (S.is_log pieces.now.source.now)) pieces.now.shape.now judged (λ e. IsAnswer asked.now.folder.now e asked.now.number answer)) }
     ensures refused { IfErr result (IsAfter (known_by (S.said pieces.now.source.now) (S.is_log pieces.now.source.now)) (S.outcomes pieces.now.source.now) pieces.now.shape.now.partitions judged) }
 {
     let number = asked.number;
@@ -181,7 +180,7 @@ fn answer_judged<S: Source>(
     judged: Judged,
     asked: &Asked<'_>,
 ) -> Result<Answer, Unlisted<S::Fault>>
-    ensures answer { IfOk result (λ answer. HoldsBy (known_by (S.said pieces.now.source.now) (S.is_log pieces.now.source.now)) pieces.now.shape.now judged (λ e. IsAnswer asked.now.folder.now e asked.now.number answer)) }
+    ensures answer { IfOk result (λ answer. HoldsByNamed (known_by (S.said pieces.now.source.now) (S.is_log pieces.now.source.now)) pieces.now.shape.now judged (λ e. IsAnswer asked.now.folder.now e asked.now.number answer)) }
     ensures refused { IfErr result (IsAfter (known_by (S.said pieces.now.source.now) (S.is_log pieces.now.source.now)) (S.outcomes pieces.now.source.now) pieces.now.shape.now.partitions judged) }
 {
     match yes_of(alloc, pieces.shape.spec(), &judged)? {
@@ -204,7 +203,7 @@ pub(crate) fn explain<S: Source, R: Threads + Sync>(
     pieces: Pieces<'_, S>,
     asked: &Asked<'_>,
 ) -> Result<Answer, Unlisted<S::Fault>>
-    ensures answer { IfOk result (λ answer. HoldsAsRead (known_by (S.said pieces.entry.source.now) (S.is_log pieces.entry.source.now)) pieces.entry.shape.now (λ e. IsAnswer asked.now.folder.now e asked.now.number answer)) }
+    ensures answer { IfOk result (λ answer. HoldsAsNamed (known_by (S.said pieces.entry.source.now) (S.is_log pieces.entry.source.now)) pieces.entry.shape.now (λ e. IsAnswer asked.now.folder.now e asked.now.number answer)) }
     ensures opened { IfOk result (λ answer. AreOpened (S.outcomes pieces.entry.source.now) (pieces_of pieces.entry.shape.now)) }
     ensures refused { IfErr result (IsUntold (S.outcomes pieces.entry.source.now) (S.Fault.from_gives alloc_error) (pieces_of pieces.entry.shape.now) true) }
 {

@@ -7,20 +7,19 @@ ghost use Rattle.eos_disk.specs.Shapes.{AreKnown};
 ghost use Rattle.eos_source.specs.FirstRefusals.{IsOfPieces, outcomes_of, pieces_of};
 ghost use Rattle.eos_source.specs.Refusals.{AreOpened};
 ghost use Rattle.eos_source.specs.Saying.{known_at, StandsAt};
-ghost use Rattle.eos_explaining.specs.Folders.{number_of, IsExplained, IsFrontOfExplained, HoldsAsRead, HoldsOf};
+ghost use Rattle.eos_explaining.specs.Folders.{number_of, IsExplained, IsFrontOfExplained, HoldsAsNamed, HoldsOf};
 ghost use Rattle.eos_explaining.specs.Refused.{IsFirst, IsFirstAgain};
 ghost use Rattle.eos_explaining.specs.steps.Tellings.{IsAnswer, Tells, TellsFront};
 ghost use Rattle.eos_explaining.specs.declared.folder.Unexplained.TheVariants.{CannotWrite};
 
-use crate::again::Pieces;
 use crate::answer::{Answer, Asked, explain};
-use crate::refused::refusal_of;
 use eos_base::Workers;
 use eos_disk::{Disk, FolderFault, HostDisk, Shape, Watch, read_shape};
 use eos_ending::{
     Ending, Meter, Progress, STANDARD, Subject, end, end_fewer, end_unread, say_notes,
 };
 use eos_source::FolderSource;
+use eos_source_check::{Pieces, refusal_of};
 use eos_text::{WriteFault, finish};
 use eos_words::Explain;
 use std::alloc::Global;
@@ -72,7 +71,7 @@ fn answer_shape<D: Disk, T: Watch, R: Threads + Sync>(
     shape: &Shape,
     which: &Which,
 ) -> Result<Answer, FolderFault>
-    ensures answer { IfOk result (λ answer. HoldsAsRead (known_at (D.holds folder.entry.disk.now) folder.entry.path.now (segments_of shape.now.evidence.partitions) shape.now.forms.items) shape.now.evidence
+    ensures answer { IfOk result (λ answer. HoldsAsNamed (known_at (D.holds folder.entry.disk.now) folder.entry.path.now (segments_of shape.now.evidence.partitions) shape.now.forms.items) shape.now.evidence
         (λ e. IsAnswer folder.entry.path.now e (number_of which.now.fault) answer)) }
     ensures opened { IfOk result (λ answer. AreOpened (outcomes_of (D.holds folder.entry.disk.now) folder.entry.path.now shape.now.evidence shape.now.forms.items) (pieces_of shape.now.evidence)) }
     ensures refused { IfErr result (IsOfPieces (outcomes_of (D.holds folder.entry.disk.now) folder.entry.path.now shape.now.evidence shape.now.forms.items) (pieces_of shape.now.evidence) true) }

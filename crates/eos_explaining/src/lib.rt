@@ -11,7 +11,6 @@ mod kinds;
 mod lines;
 mod paths;
 mod records;
-mod refused;
 mod rows;
 mod seen;
 mod sentences;

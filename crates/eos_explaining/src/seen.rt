@@ -10,10 +10,10 @@ ghost use Rattle.eos_source_check.specs.Refusals.{IsUnread};
 ghost use Rattle.eos_explaining.specs.Explaining.{AreSeen};
 ghost use Rattle.eos_explaining.specs.Folders.{AreRead, HasThem};
 ghost use Rattle.eos_explaining.specs.Seen.{seen_log, seen_logs};
-ghost use Rattle.eos_explaining.specs.steps.Again.{AreKept};
+ghost use Rattle.eos_explaining.specs.steps.Again.{ReadsMore};
 ghost use Rattle.eos_explaining.specs.steps.Found.{IsItsLog};
 
-use crate::again::{Pieces, read_name};
+use crate::again::read_name;
 use crate::whole_log::whole_log;
 use eos_base::PartitionName;
 use eos_check::Verdict;
@@ -22,7 +22,7 @@ use eos_kept::{Logs, Part};
 use eos_manifest::is_judged;
 use eos_sought::partition_named;
 use eos_source::Source;
-use eos_source_check::{Judged, Unlisted};
+use eos_source_check::{Judged, Pieces, Unlisted};
 use eos_verdict::{Fault, LineageFault};
 use std::alloc::{AllocError, Global};
 
@@ -62,8 +62,7 @@ fn whole_of<S: Source>(
 ) -> Result<Part, Unlisted<S::Fault>>
     requires evidence { IsEvidence pieces.now.shape.now }
     requires read { AreRead (known_by (S.said pieces.now.source.now) (S.is_log pieces.now.source.now)) pieces.now.shape.now.partitions read.old.items }
-    ensures read { OnOk result (AreRead (known_by (S.said pieces.now.source.now) (S.is_log pieces.now.source.now)) pieces.now.shape.now.partitions read.new.items) }
-    ensures kept { OnOk result (AreKept read.old.items read.new.items) }
+    ensures more { OnOk result (ReadsMore (known_by (S.said pieces.now.source.now) (S.is_log pieces.now.source.now)) pieces.now.shape.now.partitions read.old.items read.new.items) }
     ensures seen { IfOk result (λ seen. (e : EvidenceParts) (log : PartLog) → IsEvidence e → e.spec ≡ pieces.now.shape.now.spec → HasThem e read.new.items → IsItsLog e part log → seen ≡ log) }
     ensures unread { IfErr result (IsUnread (S.outcomes pieces.now.source.now) (length (segments_of pieces.now.shape.now.partitions))) }
 {
@@ -85,8 +84,7 @@ fn seen_of<S: Source>(
     part: Part,
 ) -> Result<Part, Unlisted<S::Fault>>
     requires { AreRead (known_by (S.said pieces.now.source.now) (S.is_log pieces.now.source.now)) pieces.now.shape.now.partitions read.old.items }
-    ensures read { OnOk result (AreRead (known_by (S.said pieces.now.source.now) (S.is_log pieces.now.source.now)) pieces.now.shape.now.partitions read.new.items) }
-    ensures kept { OnOk result (AreKept read.old.items read.new.items) }
+    ensures more { OnOk result (ReadsMore (known_by (S.said pieces.now.source.now) (S.is_log pieces.now.source.now)) pieces.now.shape.now.partitions read.old.items read.new.items) }
     ensures seen { IfOk result (λ seen. (e : EvidenceParts) (log : PartLog) → IsEvidence e → e.spec ≡ pieces.now.shape.now.spec → HasThem e read.new.items → IsItsLog e part log → part ≡ kept_log e.spec.apps log → seen ≡ seen_log e.spec.apps log) }
     ensures unread { IfErr result (IsUnread (S.outcomes pieces.now.source.now) (length (segments_of pieces.now.shape.now.partitions))) }
 {
@@ -106,8 +104,7 @@ fn all_seen<S: Source>(
     parts: Vec<Part>,
 ) -> Result<Vec<Part>, Unlisted<S::Fault>>
     requires { AreRead (known_by (S.said pieces.now.source.now) (S.is_log pieces.now.source.now)) pieces.now.shape.now.partitions read.old.items }
-    ensures read { OnOk result (AreRead (known_by (S.said pieces.now.source.now) (S.is_log pieces.now.source.now)) pieces.now.shape.now.partitions read.new.items) }
-    ensures kept { OnOk result (AreKept read.old.items read.new.items) }
+    ensures more { OnOk result (ReadsMore (known_by (S.said pieces.now.source.now) (S.is_log pieces.now.source.now)) pieces.now.shape.now.partitions read.old.items read.new.items) }
     ensures seen { IfOk result (λ seen. (e : EvidenceParts) (logs : List PartLog) → IsEvidence e → e.spec ≡ pieces.now.shape.now.spec → HasThem e read.new.items → AreLogsOf e.partitions logs → parts.items ≡ wanted_logs e.spec.apps logs → seen.items ≡ seen_logs e.spec.apps logs) }
     ensures unread { IfErr result (IsUnread (S.outcomes pieces.now.source.now) (length (segments_of pieces.now.shape.now.partitions))) }
 {
@@ -137,8 +134,7 @@ pub(crate) fn seen_logs<S: Source>(
     told: &[Verdict],
 ) -> Result<Vec<Part>, Unlisted<S::Fault>>
     requires { AreRead (known_by (S.said pieces.now.source.now) (S.is_log pieces.now.source.now)) pieces.now.shape.now.partitions read.old.items }
-    ensures read { OnOk result (AreRead (known_by (S.said pieces.now.source.now) (S.is_log pieces.now.source.now)) pieces.now.shape.now.partitions read.new.items) }
-    ensures kept { OnOk result (AreKept read.old.items read.new.items) }
+    ensures more { OnOk result (ReadsMore (known_by (S.said pieces.now.source.now) (S.is_log pieces.now.source.now)) pieces.now.shape.now.partitions read.old.items read.new.items) }
     ensures seen { IfOk result (λ seen. (e : EvidenceParts) (logs : List PartLog) → IsEvidence e → e.spec ≡ pieces.now.shape.now.spec → HasThem e read.new.items → AreLogsOf e.partitions logs → parts.items ≡ wanted_logs e.spec.apps logs → AreSeen e logs seen.items) }
     ensures unread { IfErr result (IsUnread (S.outcomes pieces.now.source.now) (length (segments_of pieces.now.shape.now.partitions))) }
 {

@@ -11,17 +11,15 @@ ghost use Rattle.eos_source.specs.Said.{known_by};
 ghost use Rattle.eos_source.specs.Saying.{known_at, StandsAt};
 ghost use Rattle.eos_source_check.specs.Refusals.{IsUnread, IsUntold};
 ghost use Rattle.eos_explaining.specs.FirstStories.{AreFirstStories};
-ghost use Rattle.eos_explaining.specs.Folders.{AreRead, HoldsAsRead, HoldsOf};
+ghost use Rattle.eos_explaining.specs.Folders.{HoldsAsNamed, HoldsOf};
 ghost use Rattle.eos_explaining.specs.Refused.{IsFirstAgain};
-ghost use Rattle.eos_explaining.specs.steps.Again.{AreKept, AreToldBy};
-ghost use Rattle.eos_explaining.specs.steps.Found.{AreFoundBy, HoldsBy};
+ghost use Rattle.eos_explaining.specs.steps.Again.{ReadsMore, AreToldBy};
+ghost use Rattle.eos_explaining.specs.steps.Found.{AreFoundBy, HoldsByNamed};
 ghost use Rattle.eos_explaining.specs.steps.Untold.{IsAfter};
 
-use crate::again::Pieces;
 use crate::answer::{Findings, found_in};
 use crate::folder::Folder;
 use crate::kinds::Pick;
-use crate::refused::refusal_of;
 use crate::seen::{parts_of, seen_logs};
 use crate::story::{About, story_of};
 use eos_base::Workers;
@@ -29,7 +27,7 @@ use eos_check::Verdict;
 use eos_disk::{Disk, FolderFault, Shape, Watch, read_shape};
 use eos_evidence::Partition;
 use eos_source::{FolderSource, Source};
-use eos_source_check::{Judged, Unlisted, judge_source};
+use eos_source_check::{Judged, Pieces, Unlisted, judge_source, refusal_of};
 use std::alloc::Global;
 use std::thread::Threads;
 
@@ -49,10 +47,8 @@ fn told_each<S: Source>(
     about: &About<'_>,
     told: &[Verdict],
 ) -> Result<Vec<String>, Unlisted<S::Fault>>
-    requires read { AreRead (known_by (S.said pieces.now.source.now) (S.is_log pieces.now.source.now)) pieces.now.shape.now.partitions read.old.items }
-    requires faults { (faults : List AFault) × (told.now ≡ map No faults) }
-    ensures read { OnOk result (AreRead (known_by (S.said pieces.now.source.now) (S.is_log pieces.now.source.now)) pieces.now.shape.now.partitions read.new.items) }
-    ensures kept { OnOk result (AreKept read.old.items read.new.items) }
+    requires { (faults : List AFault) × (told.now ≡ map No faults) }
+    ensures more { OnOk result (ReadsMore (known_by (S.said pieces.now.source.now) (S.is_log pieces.now.source.now)) pieces.now.shape.now.partitions read.old.items read.new.items) }
     ensures told { IfOk result (λ texts. AreToldBy pieces.now.shape.now read.new.items about.now told.now (map string_bytes texts.items)) }
     ensures unread { IfErr result (IsUnread (S.outcomes pieces.now.source.now) (pieces_of pieces.now.shape.now)) }
 {
@@ -74,7 +70,7 @@ fn of_findings<S: Source>(
 ) -> Result<Vec<String>, Unlisted<S::Fault>>
     requires { (most : ℕ) × AreFoundBy (known_by (S.said pieces.now.source.now) (S.is_log pieces.now.source.now)) pieces.now.shape.now judged 0 most found.now }
     ensures told { IfOk result (λ texts. (most : ℕ) → AreFoundBy (known_by (S.said pieces.now.source.now) (S.is_log pieces.now.source.now)) pieces.now.shape.now judged 0 most found.now
-        → HoldsBy (known_by (S.said pieces.now.source.now) (S.is_log pieces.now.source.now)) pieces.now.shape.now judged (λ e. AreFirstStories folder.now e most (map string_bytes texts.items))) }
+        → HoldsByNamed (known_by (S.said pieces.now.source.now) (S.is_log pieces.now.source.now)) pieces.now.shape.now judged (λ e. AreFirstStories folder.now e most (map string_bytes texts.items))) }
     ensures unread { IfErr result (IsUnread (S.outcomes pieces.now.source.now) (pieces_of pieces.now.shape.now)) }
 {
     let mut read = Vec::new(alloc);
@@ -98,7 +94,7 @@ fn of_judged<S: Source>(
     folder: &str,
     most: u64,
 ) -> Result<Vec<String>, Unlisted<S::Fault>>
-    ensures told { IfOk result (λ texts. HoldsBy (known_by (S.said pieces.now.source.now) (S.is_log pieces.now.source.now)) pieces.now.shape.now judged (λ e. AreFirstStories folder.now e most (map string_bytes texts.items))) }
+    ensures told { IfOk result (λ texts. HoldsByNamed (known_by (S.said pieces.now.source.now) (S.is_log pieces.now.source.now)) pieces.now.shape.now judged (λ e. AreFirstStories folder.now e most (map string_bytes texts.items))) }
     ensures refused { IfErr result (IsAfter (known_by (S.said pieces.now.source.now) (S.is_log pieces.now.source.now)) (S.outcomes pieces.now.source.now) pieces.now.shape.now.partitions judged) }
 {
     let pick = Pick { from: 0, most };
@@ -116,7 +112,7 @@ fn of_source<S: Source, R: Threads + Sync>(
     folder: &str,
     first: &First,
 ) -> Result<Vec<String>, Unlisted<S::Fault>>
-    ensures told { IfOk result (λ texts. HoldsAsRead (known_by (S.said pieces.entry.source.now) (S.is_log pieces.entry.source.now)) pieces.entry.shape.now (λ e. AreFirstStories folder.now e first.now.most (map string_bytes texts.items))) }
+    ensures told { IfOk result (λ texts. HoldsAsNamed (known_by (S.said pieces.entry.source.now) (S.is_log pieces.entry.source.now)) pieces.entry.shape.now (λ e. AreFirstStories folder.now e first.now.most (map string_bytes texts.items))) }
     ensures opened { IfOk result (λ texts. AreOpened (S.outcomes pieces.entry.source.now) (pieces_of pieces.entry.shape.now)) }
     ensures refused { IfErr result (IsUntold (S.outcomes pieces.entry.source.now) (S.Fault.from_gives alloc_error) (pieces_of pieces.entry.shape.now) true) }
 {
@@ -137,7 +133,7 @@ fn of_shape<D: Disk, T: Watch, R: Threads + Sync>(
     shape: &Shape,
     first: &First,
 ) -> Result<Vec<String>, FolderFault>
-    ensures told { IfOk result (λ texts. HoldsAsRead (known_at (D.holds folder.entry.disk.now) folder.entry.path.now (segments_of shape.now.evidence.partitions) shape.now.forms.items) shape.now.evidence
+    ensures told { IfOk result (λ texts. HoldsAsNamed (known_at (D.holds folder.entry.disk.now) folder.entry.path.now (segments_of shape.now.evidence.partitions) shape.now.forms.items) shape.now.evidence
         (λ e. AreFirstStories folder.entry.path.now e first.now.most (map string_bytes texts.items))) }
     ensures opened { IfOk result (λ texts. AreOpened (outcomes_of (D.holds folder.entry.disk.now) folder.entry.path.now shape.now.evidence shape.now.forms.items) (pieces_of shape.now.evidence)) }
     ensures refused { IfErr result (IsOfPieces (outcomes_of (D.holds folder.entry.disk.now) folder.entry.path.now shape.now.evidence shape.now.forms.items) (pieces_of shape.now.evidence) true) }

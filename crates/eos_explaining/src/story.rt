@@ -11,10 +11,9 @@ ghost use Rattle.eos_source.specs.Said.{known_by};
 ghost use Rattle.eos_source_check.specs.Refusals.{IsUnread};
 ghost use Rattle.eos_story.specs.PlaceOfFault.{place_of as place_of_fault};
 ghost use Rattle.eos_explaining.specs.Explaining.{code_of};
-ghost use Rattle.eos_explaining.specs.Folders.{AreRead};
-ghost use Rattle.eos_explaining.specs.steps.Again.{AreNamedCovered, AreKept, SettledIf, IsToldBy};
+ghost use Rattle.eos_explaining.specs.steps.Again.{AreNamedCovered, ReadsMore, SettledIf, IsToldBy};
 
-use crate::again::{Pieces, read_own, read_rows};
+use crate::again::{read_own, read_rows};
 use crate::{Story, story_text};
 use eos_check::{Fault, Verdict};
 use eos_claims::Place;
@@ -22,7 +21,7 @@ use eos_evidence::Partition;
 use eos_kept::Part;
 use eos_notes::Note;
 use eos_source::Source;
-use eos_source_check::Unlisted;
+use eos_source_check::{Pieces, Unlisted};
 use eos_story::{Row, Scene, place_of, rows_of};
 use eos_text::{Page, page_of};
 use std::alloc::{AllocError, Global};
@@ -63,9 +62,7 @@ fn read_named<S: Source>(
     place: Option<&Place>,
     rows: &[Row],
 ) -> Result<bool, Unlisted<S::Fault>>
-    requires { AreRead (known_by (S.said pieces.now.source.now) (S.is_log pieces.now.source.now)) pieces.now.shape.now.partitions read.old.items }
-    ensures read { OnOk result (AreRead (known_by (S.said pieces.now.source.now) (S.is_log pieces.now.source.now)) pieces.now.shape.now.partitions read.new.items) }
-    ensures kept { OnOk result (AreKept read.old.items read.new.items) }
+    ensures more { OnOk result (ReadsMore (known_by (S.said pieces.now.source.now) (S.is_log pieces.now.source.now)) pieces.now.shape.now.partitions read.old.items read.new.items) }
     ensures covered { IfOk result (SettledIf read.old.items read.new.items (λ all. AreNamedCovered pieces.now.shape.now.partitions all (option_copied place.entry) rows.now)) }
     ensures unread { IfErr result (IsUnread (S.outcomes pieces.now.source.now) (length (segments_of pieces.now.shape.now.partitions))) }
 {
@@ -82,11 +79,9 @@ fn told_once<S: Source>(
     about: &About<'_>,
     of: Of<'_>,
 ) -> Result<Option<String>, Unlisted<S::Fault>>
-    requires read { AreRead (known_by (S.said pieces.now.source.now) (S.is_log pieces.now.source.now)) pieces.now.shape.now.partitions read.old.items }
     requires names { of.verdict.now ≡ No of.fault.now }
     requires place { of.place.now ≡ place_of_fault of.fault.now }
-    ensures read { OnOk result (AreRead (known_by (S.said pieces.now.source.now) (S.is_log pieces.now.source.now)) pieces.now.shape.now.partitions read.new.items) }
-    ensures kept { OnOk result (AreKept read.old.items read.new.items) }
+    ensures more { OnOk result (ReadsMore (known_by (S.said pieces.now.source.now) (S.is_log pieces.now.source.now)) pieces.now.shape.now.partitions read.old.items read.new.items) }
     ensures told { IfOk result (λ told. IfSome told (λ text. IsToldBy pieces.now.shape.now read.new.items about.now of.entry.verdict.now (string_bytes text))) }
     ensures unread { IfErr result (IsUnread (S.outcomes pieces.now.source.now) (length (segments_of pieces.now.shape.now.partitions))) }
 {
@@ -122,11 +117,9 @@ fn told_of<S: Source>(
     about: &About<'_>,
     of: Of<'_>,
 ) -> Result<String, Unlisted<S::Fault>>
-    requires read { AreRead (known_by (S.said pieces.now.source.now) (S.is_log pieces.now.source.now)) pieces.now.shape.now.partitions read.old.items }
     requires names { of.verdict.now ≡ No of.fault.now }
     requires place { of.place.now ≡ place_of_fault of.fault.now }
-    ensures read { OnOk result (AreRead (known_by (S.said pieces.now.source.now) (S.is_log pieces.now.source.now)) pieces.now.shape.now.partitions read.new.items) }
-    ensures kept { OnOk result (AreKept read.old.items read.new.items) }
+    ensures more { OnOk result (ReadsMore (known_by (S.said pieces.now.source.now) (S.is_log pieces.now.source.now)) pieces.now.shape.now.partitions read.old.items read.new.items) }
     ensures told { IfOk result (λ text. IsToldBy pieces.now.shape.now read.new.items about.now of.entry.verdict.now (string_bytes text)) }
     ensures unread { IfErr result (IsUnread (S.outcomes pieces.now.source.now) (length (segments_of pieces.now.shape.now.partitions))) }
 {
@@ -155,10 +148,8 @@ pub(crate) fn story_of<S: Source>(
     about: &About<'_>,
     verdict: &Verdict,
 ) -> Result<String, Unlisted<S::Fault>>
-    requires read { AreRead (known_by (S.said pieces.now.source.now) (S.is_log pieces.now.source.now)) pieces.now.shape.now.partitions read.old.items }
     requires names { (fault : AFault) × (verdict.now ≡ No fault) }
-    ensures read { OnOk result (AreRead (known_by (S.said pieces.now.source.now) (S.is_log pieces.now.source.now)) pieces.now.shape.now.partitions read.new.items) }
-    ensures kept { OnOk result (AreKept read.old.items read.new.items) }
+    ensures more { OnOk result (ReadsMore (known_by (S.said pieces.now.source.now) (S.is_log pieces.now.source.now)) pieces.now.shape.now.partitions read.old.items read.new.items) }
     ensures told { IfOk result (λ text. IsToldBy pieces.now.shape.now read.new.items about.now verdict.now (string_bytes text)) }
     ensures unread { IfErr result (IsUnread (S.outcomes pieces.now.source.now) (length (segments_of pieces.now.shape.now.partitions))) }
 {

@@ -23,3 +23,5 @@ pub mod TimedWalks
 pub mod RefusalsTold
 pub mod RisingTimes
 pub mod EachTimes
+pub mod FoldersRefused
+pub mod FoldersRead

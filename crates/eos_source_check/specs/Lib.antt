@@ -8,3 +8,4 @@ pub mod Listed
 pub mod Refusals
 pub mod Timed
 pub mod Times
+pub mod Folders

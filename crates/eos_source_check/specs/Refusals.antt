@@ -1,9 +1,12 @@
 -- Why the faults of a source's evidence aren't listed.
 use Rattle.std.specs.Prelude.{◌≡◌, ◌≢◌, ◌⊎◌, ℕ, ◌<◌, Bool, true, false, List, length, take, Option, Some, slice_get, ⊤}
+use Rattle.eos_disk.specs.declared.folder.FolderFault.{FolderFault}
+use Rattle.eos_disk.specs.declared.folder.FolderFault.TheVariants as folder
 use Rattle.eos_evidence.specs.declared.partition.Partition.{Partition}
 use Rattle.eos_evidence.specs.Evidence.{segments_of}
 use Rattle.eos_touch.specs.declared.fault.PartitionFault.{PartitionFault}
 use Rattle.eos_faults.specs.PartitionLists.{AreFaultsOf}
+use Rattle.eos_source.specs.FolderRefusals.{IsOfAny}
 use Rattle.eos_source.specs.Refusals.{AreOpened, IsRefusal}
 use Rattle.eos_source.specs.Said.{Known}
 use Rattle.eos_source_check.specs.Again.{IsAgain}
@@ -67,3 +70,10 @@ IsUnread outcomes pieces (Refused fault) = (piece : ℕ) × (piece < pieces) × 
 IsUnread outcomes pieces (Fold piece) = piece < pieces
 IsUnread outcomes pieces (Changed piece) = ⊥
 IsUnread outcomes pieces OutOfMemory = ⊤
+
+-- the refusal of a folder for this one of its pieces
+abbrev pub IsRefusalFor : (ℕ → Option FolderFault → Type 0) → ℕ → Unlisted FolderFault → FolderFault → Type 0
+IsRefusalFor outcomes pieces (Refused why) fault = fault ≡ why
+IsRefusalFor outcomes pieces (Fold piece) fault = outcomes piece (Some fault)
+IsRefusalFor outcomes pieces (Changed piece) fault = IsOfAny outcomes pieces fault
+IsRefusalFor outcomes pieces OutOfMemory fault = fault ≡ folder.OutOfMemory

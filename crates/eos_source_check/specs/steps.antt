@@ -5,3 +5,4 @@ pub mod Earned
 pub mod FaultsAgain
 pub mod Rising
 pub mod Each
+pub mod JudgedBy

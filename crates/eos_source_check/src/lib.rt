@@ -22,6 +22,8 @@ pub mod list_laws;
 mod listed;
 mod lists;
 mod noting;
+mod pieces;
+mod refused;
 mod rising;
 mod times;
 
@@ -32,4 +34,6 @@ pub use later::later_faults;
 pub use listed::{all_faults, all_source_faults};
 pub use lists::AllFaults;
 pub use noting::By;
+pub use pieces::Pieces;
+pub use refused::refusal_of;
 pub use times::times_each;

@@ -1,5 +1,5 @@
 -- What is drawn of what was judged, of whatever evidence that is.
-use Rattle.std.specs.Prelude.{◌≡◌, ℕ, List, [], Option, false, string_bytes}
+use Rattle.std.specs.Prelude.{◌≡◌, ℕ, List, Option, string_bytes}
 use Rattle.std.specs.Str.{trim_end}
 use Rattle.eos_verdict.specs.declared.verdict.Verdict.{Verdict}
 use Rattle.eos_evidence.specs.declared.partition.Partition.{Partition}
@@ -9,7 +9,7 @@ use Rattle.eos_verdict.specs.VerdictTexts.{verdict_line, status_of}
 use Rattle.eos_source.specs.Said.{Known}
 use Rattle.eos_source_check.specs.Judged.{IsJudgedFor}
 use Rattle.eos_source_check.specs.declared.judged.Judged.{Judged}
-use Rattle.eos_source_check.specs.Again.{AreAgain, AreThere}
+use Rattle.eos_source_check.specs.steps.JudgedBy.{HoldsBy}
 use Rattle.eos_picture.specs.declared.drawing.Drawing.{Drawing}
 use Rattle.eos_picture.specs.declared.times.Times.{Times}
 use Rattle.eos_picture.specs.Shapes.{svg_text}
@@ -43,9 +43,6 @@ pub record IsDrawnBy (known : ℕ → Known) (partitions : List Partition) (judg
   pub when : AreTimesOfRows known partitions picture.rows.items times
   pub text : IsText picture times verdict drawn
 
--- it is the answer to each evidence of this shape of which this was judged, and which has the partitions as they were read again
-pub record IsAnswerBy (known : ℕ → Known) (shape : EvidenceParts) (judged : Judged) (fault around : Option ℕ) (answer : Answer) : Type 0 where
-  pub again : List (Option Partition)
-  pub once : is_later fault ≡ false → again ≡ []
-  pub read : AreAgain known 0 shape.partitions again
-  pub are : (e : EvidenceParts) → e.spec ≡ shape.spec → IsJudgedFor judged e → AreThere again e.partitions → IsAnswer fault around answer known shape.partitions e
+-- it is the answer to each evidence of this spec of which this was judged
+abbrev pub IsAnswerBy : (ℕ → Known) → EvidenceParts → Judged → Option ℕ → Option ℕ → Answer → Type 0
+IsAnswerBy known shape judged fault around answer = HoldsBy known shape judged (is_later fault) (IsAnswer fault around answer known shape.partitions)

@@ -1,14 +1,13 @@
 -- What is drawn of what was judged around its first faults, of whatever evidence that is.
-use Rattle.std.specs.Prelude.{◌≡◌, ⊤, ℕ, List, [], ◌∷◌, Option, None, Some, false, string_bytes}
+use Rattle.std.specs.Prelude.{◌≡◌, ⊤, ℕ, List, [], ◌∷◌, None, Some, string_bytes}
 use Rattle.eos_verdict.specs.declared.verdict.Fault.{Fault}
 use Rattle.eos_verdict.specs.declared.verdict.Verdict.{Verdict}
 use Rattle.eos_verdict.specs.declared.verdict.Verdict.TheVariants.{No}
 use Rattle.eos_evidence.specs.declared.partition.Partition.{Partition}
 use Rattle.eos_evidence.specs.Evidence.{EvidenceParts}
 use Rattle.eos_source.specs.Said.{Known}
-use Rattle.eos_source_check.specs.Judged.{IsJudgedFor}
 use Rattle.eos_source_check.specs.declared.judged.Judged.{Judged}
-use Rattle.eos_source_check.specs.Again.{AreAgain, AreThere}
+use Rattle.eos_source_check.specs.steps.JudgedBy.{HoldsBy}
 use Rattle.eos_drawing.specs.declared.answer.Drawn.{Drawn}
 use Rattle.eos_drawing.specs.FirstPictures.{AreFirstPictures}
 use Rattle.eos_drawing.specs.Folders.{is_later}
@@ -27,9 +26,6 @@ AreTextsBy known partitions judged [] (t ∷ ts) = ⊥
 AreTextsBy known partitions judged (f ∷ fs) [] = ⊥
 AreTextsBy known partitions judged (f ∷ fs) (t ∷ ts) = IsTextBy known partitions judged (No f) t × AreTextsBy known partitions judged fs ts
 
--- they are those of each evidence of this shape of which this was judged, and which has the partitions as they were read again
-pub record ArePicturesBy (known : ℕ → Known) (shape : EvidenceParts) (judged : Judged) (most : ℕ) (texts : List (List ℕ)) : Type 0 where
-  pub again : List (Option Partition)
-  pub once : is_later (Some most) ≡ false → again ≡ []
-  pub read : AreAgain known 0 shape.partitions again
-  pub are : (e : EvidenceParts) → e.spec ≡ shape.spec → IsJudgedFor judged e → AreThere again e.partitions → AreFirstPictures known shape.partitions e most texts
+-- they are those of each evidence of this spec of which this was judged
+abbrev pub ArePicturesBy : (ℕ → Known) → EvidenceParts → Judged → ℕ → List (List ℕ) → Type 0
+ArePicturesBy known shape judged most texts = HoldsBy known shape judged (is_later (Some most)) (λ e. AreFirstPictures known shape.partitions e most texts)

@@ -7,6 +7,8 @@ use Rattle.eos_evidence.specs.declared.partition.Partition.{Partition}
 use Rattle.eos_evidence.specs.Evidence.{EvidenceParts, IsEvidence}
 use Rattle.eos_notes.specs.Notes.{AreAllNotes}
 use Rattle.eos_sought.specs.Partitions.{partition_named}
+use Rattle.eos_source.specs.Said.{Known}
+use Rattle.eos_source_check.specs.Again.{IsRead}
 use Rattle.eos_verdict.specs.Counts.{counts_line}
 use Rattle.eos_verdict.specs.declared.verdict.Verdict.{Verdict}
 use Rattle.eos_story.specs.Names.{name_in}
@@ -34,6 +36,11 @@ AreNamedCovered shapes read place rows = IsCoveredIf shapes read (option_map (λ
 -- what was read is still there
 abbrev pub AreKept : List Partition → List Partition → Type 0
 AreKept before after = (p : Partition) → Has before p → Has after p
+
+-- and what is new was read again by its name
+pub record ReadsMore (known : ℕ → Known) (shapes before after : List Partition) : Type 0 where
+  pub kept : AreKept before after
+  pub come : (p : Partition) → Has after p → Has before p ⊎ IsRead known shapes p
 
 -- no further one was read, and so it is
 pub record IsSettled (before after : List Partition) (Covers : List Partition → Type 0) : Type 0 where

@@ -1,41 +1,10 @@
 -- Which refusal of the pieces it is.
-use Rattle.std.proofs.Common.{◌≡◌, subst}
-use Rattle.eos_disk.specs.declared.folder.FolderFault.{FolderFault}
-use Rattle.eos_disk.specs.declared.folder.FolderFault.TheVariants.{OutOfMemory}
 use Rattle.eos_source.specs.FirstRefusals.{outcomes_of, pieces_of}
-use Rattle.eos_source.proofs.FirstRefusals.{refused_of, fold_of, changed_of, memory_of}
-use Rattle.eos_source_check.specs.Refusals.{IsUntold}
-use Rattle.eos_source_check.specs.declared.fault.Unlisted.{Unlisted}
+use Rattle.eos_source_check.proofs.FoldersRefused.{untold_of}
 use Rattle.eos_checking.proofs.folder.answer_shape.Goals as goal
 
-pub returns-in-Err-Refused-clause-refused : goal.returns-in-Err-Refused-clause-refused
-returns-in-Err-Refused-clause-refused g c =
+pub returns-in-Err-clause-refused : goal.returns-in-Err-clause-refused
+returns-in-Err-clause-refused g c =
     let shape = c.args.shape.now in
-    let pieces = pieces_of shape.evidence in
-    let outcomes = outcomes_of (g.D.Disk.holds c.args.folder.disk.now) c.args.folder.path.now shape.evidence shape.forms.items in
-    let all = c.args.asked.now.all in
-    let untold = subst (λ (u : Unlisted FolderFault). IsUntold outcomes (λ w. w ≡ OutOfMemory) pieces all u) c.in-Err-Refused.field-0-is c.in-Err-Refused.ensures.refused in
-    refused_of outcomes pieces all c.in-Err-Refused.fault untold
-
-pub returns-in-Err-Fold-clause-refused : goal.returns-in-Err-Fold-clause-refused
-returns-in-Err-Fold-clause-refused g c =
-    let shape = c.args.shape.now in
-    let pieces = pieces_of shape.evidence in
-    let outcomes = outcomes_of (g.D.Disk.holds c.args.folder.disk.now) c.args.folder.path.now shape.evidence shape.forms.items in
-    let all = c.args.asked.now.all in
-    let untold = subst (λ (u : Unlisted FolderFault). IsUntold outcomes (λ w. w ≡ OutOfMemory) pieces all u) c.in-Err-Fold.field-0-is c.in-Err-Fold.ensures.refused in
-    fold_of outcomes pieces all c.in-Err-Fold.piece c.needs_log.result untold c.needs_log.ensures
-
-pub returns-in-Err-Changed-clause-refused : goal.returns-in-Err-Changed-clause-refused
-returns-in-Err-Changed-clause-refused g c =
-    let shape = c.args.shape.now in
-    let pieces = pieces_of shape.evidence in
-    let outcomes = outcomes_of (g.D.Disk.holds c.args.folder.disk.now) c.args.folder.path.now shape.evidence shape.forms.items in
-    let all = c.args.asked.now.all in
-    let untold = subst (λ (u : Unlisted FolderFault). IsUntold outcomes (λ w. w ≡ OutOfMemory) pieces all u) c.in-Err-Changed.field-0-is c.in-Err-Changed.ensures.refused in
-    changed_of outcomes pieces all c.changed.result untold c.changed.ensures
-
-pub returns-in-Err-OutOfMemory-clause-refused : goal.returns-in-Err-OutOfMemory-clause-refused
-returns-in-Err-OutOfMemory-clause-refused g c =
-    let shape = c.args.shape.now in
-    memory_of (outcomes_of (g.D.Disk.holds c.args.folder.disk.now) c.args.folder.path.now shape.evidence shape.forms.items) (pieces_of shape.evidence) c.args.asked.now.all
+    untold_of (outcomes_of (g.D.Disk.holds c.args.folder.disk.now) c.args.folder.path.now shape.evidence shape.forms.items) (pieces_of shape.evidence) c.args.asked.now.all c.in-Err.why c.refusal_of.result
+    c.in-Err.ensures.refused c.refusal_of.ensures

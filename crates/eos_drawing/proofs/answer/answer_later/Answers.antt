@@ -1,8 +1,7 @@
 use Rattle.std.proofs.Common.{inl, inr}
 use Rattle.std.proofs.lemmas.Result.{err_from_is_err_and}
 use Rattle.eos_source.specs.Said.{known_by}
-use Rattle.eos_drawing.proofs.FirstRefused.{later_is}
-use Rattle.eos_drawing.proofs.JudgedAnswers.{later_shown, later_lacks}
+use Rattle.eos_drawing.proofs.JudgedAnswers.{later_is, later_shown, later_lacks}
 use Rattle.eos_drawing.proofs.answer.answer_later.Goals as goal
 
 pub returns-in_ok-drawn-in-Ok-clause-answer : goal.returns-in_ok-drawn-in-Ok-clause-answer

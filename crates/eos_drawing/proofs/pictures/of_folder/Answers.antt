@@ -3,7 +3,8 @@ use Rattle.std.proofs.lemmas.Result.{err_from_is_err_and}
 use Rattle.eos_drawing.specs.FirstPictures.{AreFirstPictures}
 use Rattle.eos_drawing.specs.Folders.{is_later}
 use Rattle.eos_drawing.proofs.FirstRefused.{of_manifest, of_piece, of_listing}
-use Rattle.eos_drawing.proofs.FolderAnswers.{folder_of}
+use Rattle.eos_source_check.specs.Folders.{HoldsAsRead}
+use Rattle.eos_source_check.proofs.FoldersRead.{in_folder}
 use Rattle.eos_drawing.proofs.pictures.of_folder.Goals as goal
 
 pub returns-clause-texts : goal.returns-clause-texts
@@ -11,8 +12,8 @@ returns-clause-texts g c =
     let folder = c.args.folder in
     let most = c.args.first.now.most in
     let shape = c.in_ok-shape.shape in
-    folder_of (g.D.Disk.holds folder.disk.now) folder.path.now shape.evidence shape.forms.items (is_later (Some most))
-    (λ known partitions e. AreFirstPictures known partitions e most (map string_bytes c.in_ok-texts.texts.items)) (c.in_ok-shape.ensures.all c.in_ok-shape-2.was) c.in_ok-texts.ensures.texts
+    in_folder (g.D.Disk.holds folder.disk.now) folder.path.now shape.evidence shape.forms.items
+    (λ known s. HoldsAsRead known s (is_later (Some most)) (λ e. AreFirstPictures known s.partitions e most (map string_bytes c.in_ok-texts.texts.items))) (c.in_ok-shape.ensures.all c.in_ok-shape-2.was) c.in_ok-texts.ensures.texts
 
 pub returns-in_err-shape-clause-first : goal.returns-in_err-shape-clause-first
 returns-in_err-shape-clause-first g c =

@@ -4,7 +4,7 @@ use Rattle.eos_source.specs.Said.{known_by}
 use Rattle.eos_verdict.specs.declared.verdict.Fault.{Fault}
 use Rattle.eos_drawing.specs.steps.Pictures.{AreTextsBy}
 use Rattle.eos_drawing.proofs.FirstOnes.{of_list}
-use Rattle.eos_drawing.proofs.FirstRefused.{later_is}
+use Rattle.eos_drawing.proofs.JudgedAnswers.{later_is}
 use Rattle.eos_drawing.proofs.pictures.of_list.Goals as goal
 
 pub returns-clause-texts : goal.returns-clause-texts

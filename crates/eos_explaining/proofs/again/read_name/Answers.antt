@@ -9,5 +9,5 @@ returns-in-Some-clause-covered g c =
     was_read c.args.pieces.now.shape.now.partitions c.args.read.now.items c.args.name.now c.in-Some._partition.now
     (subst (λ (ps : List Partition). partition_named c.args.name.now ps ≡ Some c.in-Some._partition.now) c.as_slice.ensures.value c.in-Some.ensures.some)
 
-pub read_new-requires-clause-unread : goal.read_new-requires-clause-unread
-read_new-requires-clause-unread g c κs within = subst (λ (ps : List Partition). partition_named c.args.name.now ps ≡ None) c.as_slice.ensures.value c.in-None.ensures.none
+pub read_new-requires-after_bounds : goal.read_new-requires-after_bounds
+read_new-requires-after_bounds g c κs within = subst (λ (ps : List Partition). partition_named c.args.name.now ps ≡ None) c.as_slice.ensures.value c.in-None.ensures.none

@@ -2,7 +2,7 @@ use Rattle.std.proofs.Common.{Option, subst}
 use Rattle.eos_evidence.specs.declared.partition.Partition.{Partition}
 use Rattle.eos_source.specs.Said.{known_by}
 use Rattle.eos_source_check.specs.Again.{IsNamedAgain}
-use Rattle.eos_explaining.proofs.Covered.{is_none, is_read, one_more, kept_more}
+use Rattle.eos_explaining.proofs.Covered.{is_none, is_read, one_more}
 use Rattle.eos_explaining.proofs.again.read_new.Goals as goal
 
 pub returns-in-None-clause-covered : goal.returns-in-None-clause-covered
@@ -12,21 +12,18 @@ returns-in-None-clause-covered g c =
     let shapes = c.args.pieces.now.shape.now.partitions in
     is_none known shapes c.args.read.now.items c.args.name.now (subst (λ (o : Option Partition). IsNamedAgain known 0 shapes c.args.name.now o) c.in-None.is c.in_ok-partition_again.ensures.read)
 
-pub returns-in_ok-push-in-Some-clause-read : goal.returns-in_ok-push-in-Some-clause-read
-returns-in_ok-push-in-Some-clause-read g c =
+pub returns-in_ok-push-in-Some-clause-more : goal.returns-in_ok-push-in-Some-clause-more
+returns-in_ok-push-in-Some-clause-more g c =
     let source = c.args.pieces.now.source.now in
     let known = known_by (g.S.Source.said source) (g.S.Source.is_log source) in
     let shapes = c.args.pieces.now.shape.now.partitions in
-    one_more known shapes c.args.read.now.items c.push.new.self.items c.args.name.now c.in-Some.partition c.requires.read
+    one_more known shapes c.args.read.now.items c.push.new.self.items c.args.name.now c.in-Some.partition
     (subst (λ (o : Option Partition). IsNamedAgain known 0 shapes c.args.name.now o) c.in-Some.is c.in_ok-partition_again.ensures.read) c.in_ok-push-in-Some.ensures.items
-
-pub returns-in_ok-push-in-Some-clause-kept : goal.returns-in_ok-push-in-Some-clause-kept
-returns-in_ok-push-in-Some-clause-kept g c = kept_more c.args.read.now.items c.push.new.self.items c.in-Some.partition c.in_ok-push-in-Some.ensures.items
 
 pub returns-in_ok-push-in-Some-clause-covered : goal.returns-in_ok-push-in-Some-clause-covered
 returns-in_ok-push-in-Some-clause-covered g c =
     let source = c.args.pieces.now.source.now in
     let known = known_by (g.S.Source.said source) (g.S.Source.is_log source) in
     let shapes = c.args.pieces.now.shape.now.partitions in
-    is_read known shapes c.args.read.now.items c.push.new.self.items c.args.name.now c.in-Some.partition c.requires.unread
+    is_read known shapes c.args.read.now.items c.push.new.self.items c.args.name.now c.in-Some.partition c.requires
     (subst (λ (o : Option Partition). IsNamedAgain known 0 shapes c.args.name.now o) c.in-Some.is c.in_ok-partition_again.ensures.read) c.in_ok-push-in-Some.ensures.items

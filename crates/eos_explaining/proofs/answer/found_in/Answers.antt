@@ -6,15 +6,12 @@ use Rattle.eos_explaining.proofs.answer.found_in.Goals as goal
 
 pub returns-clause-found : goal.returns-clause-found
 returns-clause-found g c =
-    let list = c.in_ok-faults.ensures.ok in
     let faults = faults_in c.in_ok-faults.faults in
     record {
       faults = faults;
       all = c.in_ok-picked.ensures.counts.all ∙ length-map faults No;
       line = c.in_ok-line.ensures (map No faults) c.in_ok-picked.ensures.counts;
       held = c.in_ok-picked.ensures.held;
-      again = list.again;
-      read = list.read;
-      are = λ e spec j there. list.are e j.is_evidence spec j.logs there;
+      list = c.in_ok-faults.ensures.ok;
       notes = λ e spec j. c.in_ok-notes.ensures e (spec ∙ sym c.spec.ensures.value) j;
     }

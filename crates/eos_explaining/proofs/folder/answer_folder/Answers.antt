@@ -3,16 +3,16 @@ use Rattle.std.proofs.Common.{true}
 use Rattle.std.proofs.lemmas.Result.{err_from_is_err_and}
 use Rattle.eos_source.proofs.FirstRefusals.{of_manifest, of_piece, of_listing}
 use Rattle.eos_explaining.specs.steps.Tellings.{IsAnswer}
-use Rattle.eos_explaining.specs.Folders.{number_of}
-use Rattle.eos_explaining.proofs.FolderAnswers.{folder_of}
+use Rattle.eos_explaining.specs.Folders.{number_of, HoldsAsNamed}
+use Rattle.eos_source_check.proofs.FoldersRead.{in_folder}
 use Rattle.eos_explaining.proofs.folder.answer_folder.Goals as goal
 
 pub returns-clause-answer : goal.returns-clause-answer
 returns-clause-answer g c =
     let folder = c.args.folder in
     let shape = c.in_ok-shape.shape in
-    folder_of (g.D.Disk.holds folder.disk.now) folder.path.now shape.evidence shape.forms.items
-    (λ e. IsAnswer folder.path.now e (number_of c.args.which.now.fault) c.in_ok-answer.answer) (c.in_ok-shape.ensures.all c.in_ok-shape-2.was) c.in_ok-answer.ensures.answer
+    in_folder (g.D.Disk.holds folder.disk.now) folder.path.now shape.evidence shape.forms.items
+    (λ known s. HoldsAsNamed known s (λ e. IsAnswer folder.path.now e (number_of c.args.which.now.fault) c.in_ok-answer.answer)) (c.in_ok-shape.ensures.all c.in_ok-shape-2.was) c.in_ok-answer.ensures.answer
 
 pub returns-in_err-shape-clause-first : goal.returns-in_err-shape-clause-first
 returns-in_err-shape-clause-first g c =

@@ -2,6 +2,7 @@ use Rattle.std.proofs.Common.{◌≡◌, List, Some, None, subst}
 use Rattle.eos_evidence.specs.declared.partition.Partition.{Partition}
 use Rattle.eos_sought.specs.Partitions.{partition_named}
 use Rattle.eos_source.specs.Said.{known_by}
+use Rattle.eos_explaining.proofs.Covered.{are_read}
 use Rattle.eos_explaining.proofs.PartitionsAgain.{read_partition}
 use Rattle.eos_explaining.proofs.SeenLogs.{whole_seen, none_unread}
 use Rattle.eos_explaining.proofs.seen.whole_of.Goals as goal
@@ -9,7 +10,8 @@ use Rattle.eos_explaining.proofs.seen.whole_of.Goals as goal
 pub whole_log-requires : goal.whole_log-requires
 whole_log-requires g c =
     let source = c.args.pieces.now.source.now in
-    read_partition (known_by (g.S.Source.said source) (g.S.Source.is_log source)) c.args.pieces.now.shape.now c.read_name.new.read.items c.in_ok-name.name c.in-Some.partition.now c.requires.evidence c.in_ok-read_name.ensures.read
+    read_partition (known_by (g.S.Source.said source) (g.S.Source.is_log source)) c.args.pieces.now.shape.now c.read_name.new.read.items c.in_ok-name.name c.in-Some.partition.now c.requires.evidence
+    (are_read _ _ c.args.read.now.items c.read_name.new.read.items c.requires.read c.in_ok-read_name.ensures.more)
     (subst (λ (ps : List Partition). partition_named c.in_ok-name.name ps ≡ Some c.in-Some.partition.now) c.as_slice.ensures.value c.in-Some.ensures.some)
 
 pub returns-in-None-clause-seen : goal.returns-in-None-clause-seen

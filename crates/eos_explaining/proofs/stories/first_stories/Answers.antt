@@ -3,23 +3,25 @@ use Rattle.std.proofs.Common.{true, map, string_bytes}
 use Rattle.std.proofs.lemmas.Result.{err_from_is_err_and}
 use Rattle.eos_source.proofs.FirstRefusals.{of_manifest, of_piece, of_listing}
 use Rattle.eos_explaining.specs.FirstStories.{AreFirstStories}
-use Rattle.eos_explaining.proofs.FolderAnswers.{folder_of, known_of}
+use Rattle.eos_source_check.proofs.FoldersRead.{in_folder}
+use Rattle.eos_explaining.proofs.FolderAnswers.{known_of}
+use Rattle.eos_explaining.specs.Folders.{HoldsAsNamed}
 use Rattle.eos_explaining.proofs.stories.first_stories.Goals as goal
 
 pub returns-clause-some : goal.returns-clause-some
 returns-clause-some g c =
     let folder = c.args.folder in
     let shape = c.in_ok-shape.shape in
-    folder_of (g.D.Disk.holds folder.disk.now) folder.path.now shape.evidence shape.forms.items
-    (λ e. AreFirstStories folder.path.now e c.args.first.now.most (map string_bytes c.in_ok-texts.texts.items)) (c.in_ok-shape.ensures.all c.in_ok-shape-2.was) c.in_ok-texts.ensures.told
+    in_folder (g.D.Disk.holds folder.disk.now) folder.path.now shape.evidence shape.forms.items
+    (λ known s. HoldsAsNamed known s (λ e. AreFirstStories folder.path.now e c.args.first.now.most (map string_bytes c.in_ok-texts.texts.items))) (c.in_ok-shape.ensures.all c.in_ok-shape-2.was) c.in_ok-texts.ensures.told
 
 pub returns-clause-known : goal.returns-clause-known
 returns-clause-known g c e known at =
     let folder = c.args.folder in
     let shape = c.in_ok-shape.shape in
     known_of (g.D.Disk.holds folder.disk.now) folder.path.now (λ x. AreFirstStories folder.path.now x c.args.first.now.most (map string_bytes c.in_ok-texts.texts.items)) e known at
-    (folder_of (g.D.Disk.holds folder.disk.now) folder.path.now shape.evidence shape.forms.items
-    (λ x. AreFirstStories folder.path.now x c.args.first.now.most (map string_bytes c.in_ok-texts.texts.items)) (c.in_ok-shape.ensures.all c.in_ok-shape-2.was) c.in_ok-texts.ensures.told)
+    (in_folder (g.D.Disk.holds folder.disk.now) folder.path.now shape.evidence shape.forms.items
+    (λ known s. HoldsAsNamed known s (λ x. AreFirstStories folder.path.now x c.args.first.now.most (map string_bytes c.in_ok-texts.texts.items))) (c.in_ok-shape.ensures.all c.in_ok-shape-2.was) c.in_ok-texts.ensures.told)
 
 pub returns-in_err-shape-clause-first : goal.returns-in_err-shape-clause-first
 returns-in_err-shape-clause-first g c =

@@ -2,6 +2,7 @@ use Rattle.std.proofs.Common.{◌≡◌, List, Some, String, Global, length, map
 use Rattle.std.proofs.lemmas.Option.{slice_get_read}
 use Rattle.eos_verdict.specs.declared.verdict.Verdict.{Verdict}
 use Rattle.eos_explaining.specs.steps.Again.{AreToldBy}
+use Rattle.eos_explaining.proofs.Covered.{more_still}
 use Rattle.eos_explaining.proofs.NamedFaults.{named_at}
 use Rattle.eos_explaining.proofs.StoriesMore.{told_more}
 use Rattle.eos_explaining.proofs.stories.told_each.Goals as goal
@@ -13,9 +14,8 @@ loop-i-preserved g c =
     let i = c.loop-i.i in
     let v = c.index-told-i.result in
     let at = slice_get_read told (length told) i v refl c.loop-i-test.true c.index-told-i.is in
-    let more = told_more shape c.loop-i.read.items c.story_of.new.read.items c.args.about.now told c.loop-i.texts.items i v c.in_ok-text.text c.in_ok-text.ensures.kept c.loop-i.invariant.2 at c.in_ok-text.ensures.told in (
-      c.in_ok-text.ensures.read,
-      λ p has. c.in_ok-text.ensures.kept p (c.loop-i.invariant.1 p has),
+    let more = told_more shape c.loop-i.read.items c.story_of.new.read.items c.args.about.now told c.loop-i.texts.items i v c.in_ok-text.text c.in_ok-text.ensures.more.kept c.loop-i.invariant.1 at c.in_ok-text.ensures.told in (
+      more_still _ _ c.args.read.now.items c.loop-i.read.items c.story_of.new.read.items c.loop-i.invariant.0 c.in_ok-text.ensures.more,
       subst (λ (ts : List (String Global)). AreToldBy shape c.story_of.new.read.items c.args.about.now (take (i + 1) told) (map string_bytes ts)) (sym c.in_ok-push.ensures.items) more,
     )
 
@@ -24,4 +24,4 @@ story_of-requires-clause-names g c κs within =
     let told = c.args.told.now in
     let i = c.loop-i.i in
     let v = c.index-told-i.result in
-    named_at c.requires.faults.0 i v (subst (λ (vs : List Verdict). slice_get vs i ≡ Some v) c.requires.faults.1 (slice_get_read told (length told) i v refl c.loop-i-test.true c.index-told-i.is))
+    named_at c.requires.0 i v (subst (λ (vs : List Verdict). slice_get vs i ≡ Some v) c.requires.1 (slice_get_read told (length told) i v refl c.loop-i-test.true c.index-told-i.is))
