@@ -56,7 +56,7 @@ TABLE = {
         """,
     "part": """
         eos_check: part_of parts parts_from
-        eos_commits: PartRole judge_part
+        eos_commits: take_part
         eos_explaining: parts_of
         eos_fold: Part part
         eos_kept: KeptPart Part log_part part
@@ -64,7 +64,6 @@ TABLE = {
         eos_notes: count_part count_part_if
         eos_sought: take_part walk_part
         eos_table: closes_of_part markers_of_part name_of_part take_part
-        eos_faults: take_part
         """,
 }
 # Rust's own names for taking a value apart; and, below all that has runs and parts, claims of one input in a row, and a record's fields.

@@ -23,8 +23,7 @@ use Rattle.eos_commits.specs.Commits.{Group, Topic, is_same, is_of, is_offsets_p
 use Rattle.eos_commits.specs.Tables.{Tabled, IsTableOf, pick, pick_of_topics, picked}
 use Rattle.eos_commits.specs.steps.CommitLists.{commit_at, commits_at}
 use Rattle.eos_commits.specs.steps.Entries.{AreEntriesOf, plain_entry, is_read, is_under, entry_under, entry_at, entries_at, entries_by}
-use Rattle.eos_commits.specs.Roles.{Source, source_cmp, sources_of}
-use Rattle.eos_commits.specs.steps.Roles.{sources_under}
+use Rattle.eos_commits.specs.steps.Roles.{Source, source_cmp, sources_of, sources_under}
 use Rattle.eos_commits.proofs.CommitSets.{flat_filter, in_log}
 use Rattle.eos_commits.proofs.RoleSearch.{found_in_order, IsRead, read_is_found, source_total}
 

@@ -1,5 +1,4 @@
 pub mod PushedMore
-pub mod Unasked
 pub mod SettledParts
 pub mod SettledBatches
 pub mod VisibleOrder
@@ -9,8 +8,12 @@ pub mod CommitSets
 pub mod EntryLists
 pub mod EntryOrder
 pub mod Spots
-pub mod JudgedSpot
-pub mod FirstFault
+pub mod HomesMet
+pub mod SpotFold
+pub mod SpotFaults
+pub mod SpotJudged
+pub mod SpotsListed
+pub mod FrontGathered
 pub mod MappedMore
 pub mod NameSearch
 pub mod CommittedTable

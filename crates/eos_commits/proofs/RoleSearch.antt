@@ -11,13 +11,13 @@ use Rattle.eos_base.specs.steps.Least.{IsExact}
 use Rattle.eos_base.proofs.Exact.{then_parts, bytes_exact}
 use Rattle.eos_base.proofs.Membership.{found_by, found_has, has_found, flat_has, has_flat, map_has, has_map}
 use Rattle.eos_evidence.specs.declared.application.App.{App}
+use Rattle.eos_evidence.specs.SpecFields.{outputs_of}
 use Rattle.eos_commits.specs.contracts.roles.TopicRefOrd.TheImpl.{ghosts as topic_ghosts}
 use Rattle.eos_commits.specs.contracts.roles.SourceRefOrd.TheImpl.{ghosts as source_ghosts}
 use Rattle.eos_commits.specs.declared.roles.TopicRef.{TopicRef}
 use Rattle.eos_commits.specs.declared.roles.SourceRef.{SourceRef}
 use Rattle.eos_commits.specs.Commits.{Group, Topic}
-use Rattle.eos_commits.specs.Roles.{Source, source_cmp, sources_in, sources_of}
-use Rattle.eos_commits.specs.steps.Roles.{plain_topic, plain_source}
+use Rattle.eos_commits.specs.steps.Roles.{Source, source_cmp, sources_in, sources_of, plain_topic, plain_source, RoleSets}
 
 pub topic_has : (xs : List TopicRef) (k : TopicRef) → is_found topic_ghosts.cmp xs k ≡ is_found (slice_cmp nat_cmp) (map plain_topic xs) (plain_topic k)
 topic_has xs k = found_by plain_topic (slice_cmp nat_cmp) topic_ghosts.cmp (λ a b. refl) xs k
@@ -60,3 +60,14 @@ pub read_is_found : (apps : List App) (group : Group) (topic : Topic) → IsRead
 read_is_found apps group topic r =
     let h : Has (sources_of apps) (r.app.group, topic) = has_flat sources_in apps r.app (r.app.group, topic) r.has (has_map (λ t. (r.app.group, t)) r.app.sources topic r.source) in
     has_found source_cmp source_total (sources_of apps) (group, topic) (subst (λ (g : Group). Has (sources_of apps) (g, topic)) r.group_is h)
+
+-- the look-ups say what the applications read and write
+pub record AreRoles (apps : List App) (r : RoleSets) : Type 0 where
+  pub outputs : (t : Topic) → is_found (slice_cmp nat_cmp) r.outputs t ≡ is_found (slice_cmp nat_cmp) (outputs_of apps) t
+  pub sources : (g : Group) (t : Topic) → is_found source_cmp r.sources (g, t) ≡ is_found source_cmp (sources_of apps) (g, t)
+
+pub roles : (apps : List App) (r : RoleSets) → IsPermutation (sources_of apps) r.sources → IsPermutation (outputs_of apps) r.outputs → AreRoles apps r
+roles apps r p q = record {
+  outputs = λ t. found_in_order (slice_cmp nat_cmp) (outputs_of apps) r.outputs t q;
+  sources = λ g t. found_in_order source_cmp (sources_of apps) r.sources (g, t) p;
+}

@@ -1,12 +1,12 @@
 -- Whether records are claims, record by record and batch by batch.
 use Rattle.std.proofs.Common.{◌≡◌, ℕ, suc, ◌+◌, List, [], ◌∷◌, ◌++◌, drop, Some, refl, sym, ap, ◌∙◌, arith, true, false, Bool, not, ◌&&◌}
+use Rattle.std.specs.Prelude.{is_none}
 use Rattle.std.specs.List.{slice_get}
 use Rattle.eos_fold.specs.declared.item.Item.{Item}
 use Rattle.eos_fold.proofs.ListPlaces.{drop_get}
 use Rattle.eos_claims.specs.Headers.{claim_of}
 use Rattle.eos_commits.specs.Visible.{is_visible}
 use Rattle.eos_commits.specs.steps.Settled.{are_claimed}
-use Rattle.eos_commits.specs.steps.Walks.{is_none}
 
 -- it is visible, and no claim
 abbrev pub bare : Item → Bool

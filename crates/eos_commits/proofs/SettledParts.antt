@@ -1,49 +1,46 @@
--- The walk over a partition that is settled.
-use Rattle.std.proofs.Common.{◌≡◌, List, [], ◌∷◌, Ok, Err, refl, true, false, Bool, not, ◌&&◌, ◌||◌, if◌then◌else◌}
+-- Nothing is gathered of a partition of which nothing is asked, or that is settled.
+use Rattle.std.proofs.Common.{◌≡◌, List, [], ◌∷◌, fold, refl, ap, ◌∙◌, true, false, Bool, not, ◌&&◌, ◌||◌, if◌then◌else◌}
+use Rattle.std.specs.Prelude.{is_none}
+use Rattle.std.proofs.lemmas.List.{append-nil}
 use Rattle.eos_fold.specs.declared.item.Item.{Item}
-use Rattle.eos_claims.specs.Headers.{claim_of}
 use Rattle.eos_fold.specs.Parts.{PartLog}
-use Rattle.eos_commits.specs.declared.judge.PartRole.{PartRole}
-use Rattle.eos_verdict.specs.declared.visible_fault.VisibleFaultKind.TheVariants.{BadLineage}
-use Rattle.eos_commits.specs.Commits.{key_of, value_of}
+use Rattle.eos_claims.specs.Headers.{claim_of}
+use Rattle.eos_commits.specs.declared.shown.Role.{Role}
 use Rattle.eos_commits.specs.Visible.{is_visible}
-use Rattle.eos_commits.specs.steps.Roles.{RoleSets}
+use Rattle.eos_commits.specs.steps.Roles.{Source, RoleSets}
 use Rattle.eos_commits.specs.steps.Settled.{are_claimed, is_settled}
-use Rattle.eos_commits.specs.steps.Walks.{Homes, Judged, is_none, judge_item, judge_key, walk_items, walk_part, role_of}
-use Rattle.eos_commits.proofs.Unasked.{nothing_asked}
+use Rattle.eos_commits.specs.steps.Gathered.{Gathered, role_in, take_visible, take_item, take_part}
 
-both : (a b : Bool) → (a && b) ≡ true → (a ≡ true) × (b ≡ true)
-both true b e = (refl, e)
-both false b e = absurd cc
+-- of an output's records: the first isn't bare, and no other one is
+first_and_rest : (output seen bare others : Bool) → (not output || (not (seen && bare) && others)) ≡ true → (seen ≡ true → (output && bare) ≡ false) × ((not output || others) ≡ true)
+first_and_rest false seen bare others e = (λ q. refl, refl)
+first_and_rest true false bare others e = (λ q. absurd cc, e)
+first_and_rest true true false others e = (λ q. refl, e)
+first_and_rest true true true others e = absurd cc
 
--- a record that is a claim, or isn't visible, shows nothing
-one : (r : RoleSets) (p : PartRole) (hs : Homes) (x : Item) → p.offsets ≡ false → not (is_visible x.fate && is_none (claim_of x.headers)) ≡ true → judge_item r p hs x ≡ Ok hs
-one r p hs x off e = go (is_visible x.fate) (is_none (claim_of x.headers)) p.output p.offsets off e
-  where
-    key : Judged
-    key = judge_key r hs p.number (key_of x) (value_of x)
+module _ (sources : List Source) (p : PartLog) (role : Role) (offsets : role.is_offsets ≡ false) where
+  unseen : (g : Gathered) (x : Item) → (role.is_output && is_none (claim_of x.headers)) ≡ false → take_visible sources p role g x ≡ g
+  unseen g x e = rw (e, offsets) (λ i. record { homes = g.homes; faults = append-nil g.faults i })
 
-    go : (v n o f : Bool) → f ≡ false → not (v && n) ≡ true
-        → (if v then (if o && n then Err BadLineage else (if f then key else Ok hs)) else Ok hs) ≡ Ok hs
-    go false n o f q e = refl
-    go true true o f q e = absurd cc
-    go true false true false q e = refl
-    go true false false false q e = refl
-    go true false o true q e = absurd cc
+  one : (g : Gathered) (x : Item) (seen : Bool) → (seen ≡ true → (role.is_output && is_none (claim_of x.headers)) ≡ false) → (if seen then take_visible sources p role g x else g) ≡ g
+  one g x true e = unseen g x (e refl)
+  one g x false e = refl
 
-claimed : (r : RoleSets) (p : PartRole) (hs : Homes) (xs : List Item) → p.offsets ≡ false → are_claimed xs ≡ true → walk_items r p hs xs ≡ Ok hs
-claimed r p hs [] off e = refl
-claimed r p hs (x ∷ xs) off e =
-    let t = both (not (is_visible x.fate && is_none (claim_of x.headers))) (are_claimed xs) e in
-    rw (one r p hs x off t.0) (claimed r p hs xs off t.1)
+  nothing_shown : (g : Gathered) (xs : List Item) → (not role.is_output || are_claimed xs) ≡ true → fold (take_item sources p role) g xs ≡ g
+  nothing_shown g [] e = refl
+  nothing_shown g (x ∷ xs) e =
+      let t = first_and_rest role.is_output (is_visible x.fate) (is_none (claim_of x.headers)) (are_claimed xs) e in
+      ap (λ (h : Gathered). fold (take_item sources p role) h xs) (one g x (is_visible x.fate) t.0) ∙ nothing_shown g xs t.1
 
--- of a settled partition nothing is asked, and of one of no output topic
-pub passed : (r : RoleSets) (p : PartLog) (hs : Homes) (settled : Bool) → (not (role_of r p).offsets && (settled || not (role_of r p).output)) ≡ true → (settled ≡ true → is_settled r p ≡ true)
-    → walk_part r hs p ≡ Ok hs
-passed r p hs settled quiet is = go (role_of r p).offsets (role_of r p).output settled refl refl quiet is
-  where
-    go : (f o s : Bool) → (role_of r p).offsets ≡ f → (role_of r p).output ≡ o → (not f && (s || not o)) ≡ true → (s ≡ true → (f || (not o || are_claimed p.items)) ≡ true) → walk_part r hs p ≡ Ok hs
-    go true o s a b q i = absurd cc
-    go false false s a b q i = nothing_asked r (role_of r p) hs p.items b a
-    go false true false a b q i = absurd cc
-    go false true true a b q i = claimed r (role_of r p) hs p.items a (i refl)
+quiet_is : (offsets output settled claimed : Bool) → (not offsets && (settled || not output)) ≡ true → (settled ≡ true → (offsets || (not output || claimed)) ≡ true) → (offsets ≡ false) × ((not output || claimed) ≡ true)
+quiet_is true output settled claimed q is = absurd cc
+quiet_is false output true claimed q is = (refl, is refl)
+quiet_is false false false claimed q is = (refl, refl)
+quiet_is false true false claimed q is = absurd cc
+
+pub passed : (r : RoleSets) (p : PartLog) (g : Gathered) (settled : Bool) → (not (role_in r.outputs p).is_offsets && (settled || not (role_in r.outputs p).is_output)) ≡ true
+    → (settled ≡ true → is_settled r p ≡ true) → take_part r g p ≡ g
+passed r p g settled quiet is =
+    let role : Role = role_in r.outputs p in
+    let t = quiet_is role.is_offsets role.is_output settled (are_claimed p.items) quiet is in
+    nothing_shown r.sources p role t.0 g p.items t.1

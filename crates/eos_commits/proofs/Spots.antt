@@ -1,5 +1,5 @@
 -- All records of a log's partitions in one list, in the order of the walk.
-use Rattle.std.proofs.Common.{◌≡◌, ◌∙◌, ◌++◌, ◌<◌, ℕ, List, [], ◌∷◌, map, flat_map, Result, Ok, Err, refl, sym, ap, subst, true, Bool, inl, inr, arith, length, suc}
+use Rattle.std.proofs.Common.{◌≡◌, ◌++◌, ◌<◌, ℕ, List, [], ◌∷◌, map, flat_map, refl, subst, true, Bool, inl, inr, arith, length, suc}
 use Rattle.std.specs.Prelude.{⊤, filter, ◌<ℤ◌, None, slice_index_or}
 use Rattle.std.specs.List.{AllPairs}
 use Rattle.std.specs.Ordering.{nat_cmp, ordering_then}
@@ -7,7 +7,6 @@ use Rattle.std.specs.declared.cmp.Ordering.TheVariants.{Less}
 use Rattle.std.proofs.lemmas.Cmp.{tied_itself}
 use Rattle.eos_base.specs.Members.{Has}
 use Rattle.eos_base.specs.PartitionNames.{name_cmp}
-use Rattle.eos_base.specs.Fallible.{◌>>=◌}
 use Rattle.eos_base.proofs.Membership.{append_cases, flat_has, has_flat, map_has, has_map, has_filter, filter_has}
 use Rattle.eos_base.proofs.NamesInOrder.{name_total}
 use Rattle.eos_fold.specs.declared.item.Item.{Item}
@@ -22,8 +21,6 @@ use Rattle.eos_commits.specs.Visible.{is_visible, VisibleIn}
 use Rattle.eos_commits.specs.Commits.{Group, is_offsets_part, offsets_parts, value_of, IsUnderGroup}
 use Rattle.eos_commits.specs.Kept.{is_output_part, output_parts}
 use Rattle.eos_commits.specs.Faults.{AtRecord, CannotRead, StandsAs, Stands, AreInOrder}
-use Rattle.eos_commits.specs.steps.Roles.{RoleSets}
-use Rattle.eos_commits.specs.steps.Walks.{Homes, Judged, judge_item, at_offset, walk_items, role_of, named, walk}
 
 -- a record with its partition
 abbrev pub Spot : Type 0
@@ -37,43 +34,6 @@ spots_in p = map (spot p) p.items
 
 abbrev pub spots : List PartLog → List Spot
 spots ps = flat_map spots_in ps
-
--- ---- the walk over them
-
-abbrev pub judge_spot : RoleSets → Homes → Spot → Result Homes VisibleFault
-judge_spot r hs z = named z.0 (at_offset z.1.offset (judge_item r (role_of r z.0) hs z.1))
-
-abbrev pub walk_spots : RoleSets → Homes → List Spot → Result Homes VisibleFault
-walk_spots r hs [] = Ok hs
-walk_spots r hs (z ∷ zs) = judge_spot r hs z >>= λ after. walk_spots r after zs
-
-in_part : (r : RoleSets) (p : PartLog) (xs : List Item) (hs : Homes) → named p (walk_items r (role_of r p) hs xs) ≡ walk_spots r hs (map (spot p) xs)
-in_part r p [] hs = refl
-in_part r p (x ∷ xs) hs = go (judge_item r (role_of r p) hs x) (λ h. in_part r p xs h)
-  where
-    go : (j : Judged) → ((h : Homes) → named p (walk_items r (role_of r p) h xs) ≡ walk_spots r h (map (spot p) xs))
-        → named p (at_offset x.offset j >>= λ after. walk_items r (role_of r p) after xs) ≡ (named p (at_offset x.offset j) >>= λ after. walk_spots r after (map (spot p) xs))
-    go (Ok h) more = more h
-    go (Err k) more = refl
-
-joined : (r : RoleSets) (xs ys : List Spot) (hs : Homes) → walk_spots r hs (xs ++ ys) ≡ (walk_spots r hs xs >>= λ h. walk_spots r h ys)
-joined r [] ys hs = refl
-joined r (x ∷ xs) ys hs = go (judge_spot r hs x) (λ h. joined r xs ys h)
-  where
-    go : (j : Result Homes VisibleFault) → ((h : Homes) → walk_spots r h (xs ++ ys) ≡ (walk_spots r h xs >>= λ a. walk_spots r a ys))
-        → (j >>= λ a. walk_spots r a (xs ++ ys)) ≡ ((j >>= λ a. walk_spots r a xs) >>= λ a. walk_spots r a ys)
-    go (Ok h) more = more h
-    go (Err f) more = refl
-
-pub flat : (r : RoleSets) (ps : List PartLog) (hs : Homes) → walk r hs ps ≡ walk_spots r hs (spots ps)
-flat r [] hs = refl
-flat r (p ∷ ps) hs =
-    ap (λ (w : Result Homes VisibleFault). w >>= λ a. walk r a ps) (in_part r p p.items hs)
-    ∙ (go (walk_spots r hs (spots_in p)) (λ h. flat r ps h) ∙ sym (joined r (spots_in p) (spots ps) hs))
-  where
-    go : (j : Result Homes VisibleFault) → ((h : Homes) → walk r h ps ≡ walk_spots r h (spots ps)) → (j >>= λ a. walk r a ps) ≡ (j >>= λ a. walk_spots r a (spots ps))
-    go (Ok h) more = more h
-    go (Err f) more = refl
 
 -- ---- their order
 

@@ -11,15 +11,11 @@ use Rattle.eos_base.proofs.NamesInOrder.{name_exact}
 use Rattle.eos_verdict.specs.declared.visible_fault.VisibleFaultKind.{VisibleFaultKind}
 use Rattle.eos_verdict.specs.declared.visible_fault.VisibleFaultKind.TheVariants.{BadLineage, BadOffset, SplitGroup, OffsetDeleted}
 use Rattle.eos_verdict.specs.contracts.visible_fault.VisibleFaultKindOrd.TheImpl.{ghosts as kind_ghosts}
-use Rattle.eos_verdict.specs.contracts.visible_fault.VisibleFaultKindOrd.TheImpl.Laws.{total-law as kind-total}
 use Rattle.eos_verdict.specs.contracts.visible_fault.VisibleFaultOrd.TheImpl.Laws.{total-law}
 use Rattle.eos_commits.specs.Faults.{visible_cmp}
 
 abbrev pub kind_cmp : VisibleFaultKind → VisibleFaultKind → Ordering
 kind_cmp = kind_ghosts.cmp
-
-pub kind_total : IsTotalOrder kind_cmp
-kind_total = kind-total
 
 kind_exact : IsExact kind_cmp
 kind_exact BadLineage BadLineage e = refl

@@ -4,7 +4,6 @@ pub mod EpochCommits
 pub mod EvidenceLogs
 pub mod Applications
 pub mod NameTables
-pub mod Roles
 pub mod SourceTopics
 pub mod Kept
 pub mod Faults

@@ -5,8 +5,7 @@ ghost use Rattle.std.specs.Ordering.{nat_cmp};
 ghost use Rattle.std.specs.Cmp.Lexicographic.{slice_cmp};
 ghost use Rattle.eos_base.specs.Members.{is_found};
 ghost use Rattle.eos_evidence.specs.SpecFields.{outputs_of};
-ghost use Rattle.eos_commits.specs.Roles.{source_cmp, sources_of};
-ghost use Rattle.eos_commits.specs.steps.Roles.{plain_topic, by_topic, plain_source, by_source, sources_under};
+ghost use Rattle.eos_commits.specs.steps.Roles.{source_cmp, sources_of, plain_topic, by_topic, plain_source, by_source, sources_under};
 
 use bytes::Bytes;
 use eos_base::{holds, in_order};
@@ -140,14 +139,13 @@ impl<'a> TopicSet<'a> {
 
 /// Groups and topics that they read, which contracts see as the list of these pairs, in order.
 #[derive(Drop)]
-pub struct SourceSet<'a> {
+pub(crate) struct SourceSet<'a> {
     pairs: Vec<SourceRef<'a>>,
 }
 
 impl<'a> Model for SourceSet<'a> {
     ghost use Rattle.std.specs.Prelude.{List, map, IsSorted};
-    ghost use Rattle.eos_commits.specs.Roles.{Source};
-    ghost use Rattle.eos_commits.specs.steps.Roles.{plain_source, by_source};
+    ghost use Rattle.eos_commits.specs.steps.Roles.{Source, plain_source, by_source};
 
     ghost Value = { List Source };
 
@@ -166,10 +164,7 @@ impl<'a> SourceSet<'a> {
     }
 
     /// What these applications read.
-    ///
-    /// # Errors
-    /// Only want of memory.
-    pub fn of(alloc: Global, apps: &'a [App]) -> Result<SourceSet<'a>, AllocError>
+    fn of(alloc: Global, apps: &'a [App]) -> Result<SourceSet<'a>, AllocError>
         ensures { IfOk result (λ set. IsPermutation (sources_of apps.now) set) }
     {
         let pairs = all_sources(alloc, apps)?;
@@ -190,7 +185,7 @@ impl<'a> SourceSet<'a> {
     }
 
     /// Whether this is an application's group and one of its source topics.
-    pub fn has(&self, group: &[u8], topic: &[u8]) -> bool
+    fn has(&self, group: &[u8], topic: &[u8]) -> bool
         ensures { result ≡ is_found source_cmp self.now (group.now, topic.now) }
     {
         is_source_in(self.pairs.as_slice(), &SourceRef { group, topic })

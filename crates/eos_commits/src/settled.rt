@@ -1,16 +1,15 @@
 //! Whether the records of output topics are claims, found by threads that take partitions side by side.
 
-ghost use Rattle.std.specs.Prelude.{◌≡◌, ◌<◌, ◌%◌, ◌&&◌, ℕ, true, length, slice_index_or, IfOk};
+ghost use Rattle.std.specs.Prelude.{◌≡◌, ◌<◌, ◌%◌, ◌&&◌, ℕ, true, is_none, length, slice_index_or, IfOk};
 ghost use Rattle.eos_claims.specs.Headers.{claim_of};
 ghost use Rattle.eos_fold.specs.declared.item.Item.{Item};
 ghost use Rattle.eos_fold.specs.Parts.{PartLog};
 ghost use Rattle.eos_kept.specs.Looks.{IsLook};
 ghost use Rattle.eos_commits.specs.Visible.{is_visible as is_visible_fate};
-ghost use Rattle.eos_commits.specs.steps.Walks.{is_none};
 ghost use Rattle.eos_commits.specs.steps.Settled.{are_claimed, is_settled as is_settled_part, AreSettled};
 
-use crate::judge::{is_unclaimed, role_of};
 use crate::roles::Roles;
+use crate::shown::{is_unclaimed, role_of};
 use crate::visible::is_visible;
 use eos_base::{Workers, are_all};
 use eos_kept::{KeptBatch, KeptBatches, Look, Part};
@@ -78,7 +77,7 @@ fn is_settled(roles: &Roles<'_>, part: &Part) -> bool
     ensures { result ≡ is_settled_part roles.now part.now }
 {
     let role = role_of(roles, part);
-    role.offsets || !role.output || is_claimed(part)
+    role.is_offsets || !role.is_output || is_claimed(part)
 }
 
 /// Whether those partitions are settled whose place leaves this rest after a division by the number of threads.

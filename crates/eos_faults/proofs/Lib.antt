@@ -1,9 +1,3 @@
-pub mod HomesMet
-pub mod UnaskedPart
-pub mod SpotFold
-pub mod SpotFaults
-pub mod SpotJudged
-pub mod SpotsListed
 pub mod FirstClaims
 pub mod GatheredSound
 pub mod GatheredWhole

@@ -1,5 +1,3 @@
-pub mod Gathered
-pub mod Lent
 pub mod Claimed
 pub mod OutputFaultsGathered
 pub mod Plain

@@ -11,9 +11,9 @@ ghost use Rattle.eos_source_check.specs.LaterFaults.{AreLaterFaults};
 
 use crate::lists::AllFaults;
 use eos_check::Fault;
-use eos_commits::VisibleFault;
+use eos_commits::{VisibleFault, all_record_faults};
 use eos_evidence::Spec;
-use eos_faults::{all_record_faults, lent_output_faults};
+use eos_faults::lent_output_faults;
 use eos_kept::{Logs, Part};
 use eos_lineage::LineageFault;
 use eos_table::{LogFault, MatchFault, all_log_faults, all_match_faults};

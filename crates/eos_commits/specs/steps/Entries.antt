@@ -15,7 +15,7 @@ use Rattle.eos_commits.specs.Commits.{Group, is_same, is_offsets_part, key_of, v
 use Rattle.eos_commits.specs.EpochCommits.{under, epoch_in}
 use Rattle.eos_commits.specs.Plain.{epoch_commit}
 use Rattle.eos_commits.specs.Tables.{Tabled}
-use Rattle.eos_commits.specs.Roles.{Source, source_cmp}
+use Rattle.eos_commits.specs.steps.Roles.{Source, source_cmp}
 
 abbrev pub plain_entry : Entry → Tabled
 plain_entry e = (e.group.now, epoch_commit e.commit)

@@ -1,6 +1,5 @@
 use Rattle.std.proofs.Common.{◌++◌, ◌∙◌, map}
-use Rattle.eos_commits.specs.Roles.{sources_in}
-use Rattle.eos_commits.specs.steps.Roles.{plain_source, sources_under}
+use Rattle.eos_commits.specs.steps.Roles.{sources_in, plain_source, sources_under}
 use Rattle.eos_commits.proofs.PushedMore.{pushed_more}
 use Rattle.eos_commits.proofs.roles.all_sources.Goals as goal
 

@@ -1,6 +1,5 @@
 use Rattle.std.proofs.Common.{◌≡◌, take, map}
-use Rattle.eos_commits.specs.Roles.{sources_of}
-use Rattle.eos_commits.specs.steps.Roles.{plain_source}
+use Rattle.eos_commits.specs.steps.Roles.{sources_of, plain_source}
 use Rattle.eos_commits.proofs.roles.all_sources.Given as goal
 
 abbrev pub invariant-loop-app : goal.invariant-loop-app

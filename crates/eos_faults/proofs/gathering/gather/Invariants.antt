@@ -1,9 +1,0 @@
-use Rattle.std.proofs.Common.{◌≡◌, drop, fold}
-use Rattle.eos_faults.specs.steps.Gathered.{take_part, empty}
-use Rattle.eos_faults.specs.steps.Lent.{plain_gathering}
-use Rattle.eos_faults.proofs.gathering.gather.Given as goal
-
--- what is left to take
-abbrev pub invariant-loop-part : goal.invariant-loop-part
-invariant-loop-part l = fold (take_part (record { sources = l.sources; outputs = l.outputs })) (plain_gathering l.gathering) (drop l.part-index l.parts)
-    ≡ fold (take_part (record { sources = l.sources; outputs = l.outputs })) empty l.parts
