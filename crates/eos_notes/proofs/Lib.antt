@@ -9,11 +9,8 @@ pub mod Whole
 pub mod EpochFalls
 pub mod CommittedEpochs
 pub mod BeforeOffset
-pub mod SegmentWalks
-pub mod SegmentsPassed
 pub mod PartitionRows
 pub mod SourceRows
-pub mod CountedRows
 pub mod CountedLooks
 pub mod TalliesFirstNamed
 pub mod TalliesWhole

@@ -2,5 +2,4 @@
 pub mod Counted
 pub mod Unlisted
 pub mod TalliesCounted
-pub mod Walks
 pub mod Replaced

@@ -4,14 +4,12 @@
 //! A yes about evidence that was named wrongly is the worst answer: a partition that the manifest forgets isn't judged, and
 //! of a group that it misspells no offset is found. A note changes no verdict.
 //!
-//! The tables are counted over the logs that the verdict is of; a partition's batches and bytes over its segments, or by what
-//! was told of these when they were read, since a log that is kept has no more of them than that.
+//! The tables are counted over the logs that the verdict is of; a partition's batches and bytes by what was told of its segments
+//! when they were read, since a log that is kept has no more of them than that.
 #![tactic(auto)]
 
-mod counts;
 mod evidence_notes;
 mod evidence_tallies;
-mod fronts;
 mod group_rows;
 mod groups;
 pub mod laws;
@@ -27,7 +25,6 @@ pub mod tally_laws;
 mod text;
 mod unlisted;
 
-pub use counts::counted_of;
 pub use evidence_tallies::tallies_of;
 pub use lines::all_lines;
 pub use note::{InternalTopic, Note, OtherRecord};
