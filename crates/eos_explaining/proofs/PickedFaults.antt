@@ -1,6 +1,12 @@
 -- Items of a list, so many from a place on, as they are passed one after the other.
-use Rattle.std.proofs.Common.{◌≡◌, ◌<◌, ◌≤◌, ◌-◌, ℕ, zero, suc, List, [], ◌∷◌, ◌++◌, length, take, drop, refl, ap, ◌∙◌, arith, slice_get}
-use Rattle.std.proofs.lemmas.List.{length-drop}
+use Rattle.std.proofs.Common.{◌≡◌, ◌<◌, ◌≤◌, ◌-◌, ℕ, zero, suc, List, [], ◌∷◌, ◌++◌, length, map, take, drop, refl, sym, ap, subst, ◌∙◌, append_assoc, arith, slice_get}
+use Rattle.std.proofs.lemmas.List.{append-nil, length-drop}
+use Rattle.eos_verdict.specs.declared.verdict.Fault.{Fault}
+use Rattle.eos_verdict.specs.declared.verdict.Verdict.{Verdict}
+use Rattle.eos_verdict.specs.declared.verdict.Verdict.TheVariants.{No}
+use Rattle.eos_faults.specs.Sinks.{TakesAll}
+use Rattle.eos_explaining.specs.declared.kinds.Picked.{Picked}
+use Rattle.eos_explaining.specs.steps.Counting.{IsPicked, IsPickedMore}
 use Rattle.eos_sought.proofs.Keeping.{take_kept, take_full}
 
 drop_more : {X : Type 0} (k : ℕ) (xs : List X) (x : X) → k ≤ length xs → drop k (xs ++ x ∷ []) ≡ drop k xs ++ x ∷ []
@@ -23,6 +29,13 @@ module _ {X : Type 0} (from most : ℕ) (xs : List X) (x : X) where
 
   pub pick_full : from ≤ length xs → most ≤ length xs - from → take most (drop from (xs ++ x ∷ [])) ≡ take most (drop from xs)
   pick_full le full = ap (take most) (drop_more from xs x le) ∙ take_full most (drop from xs) x (omega (arith, length-drop from xs, full))
+
+-- all of a list
+pub all_picked : (faults : List Fault) (told : List Verdict) (from to : Picked) → TakesAll IsPickedMore from faults to → IsPicked told from → (to.pick ≡ from.pick) × IsPicked (told ++ map No faults) to
+all_picked [] told from to t p = (ap (λ (x : Picked). x.pick) (sym t), subst (IsPicked (told ++ [])) t (subst (λ vs. IsPicked vs from) (sym (append-nil told)) p))
+all_picked (f ∷ fs) told from to t p =
+    let r = all_picked fs (told ++ No f ∷ []) t.0 to t.2 (t.1.picked told p) in
+    (r.0 ∙ t.1.pick, subst (λ vs. IsPicked vs to) (append_assoc told (No f ∷ []) (map No fs)) r.1)
 
 pub picked_first : {X : Type 0} (k : ℕ) (xs : List X) → slice_get (take 1 (drop k xs)) 0 ≡ slice_get xs k
 picked_first zero [] = refl

@@ -15,7 +15,7 @@ ghost use Rattle.eos_explaining.specs.Folders.{HoldsAsNamed};
 ghost use Rattle.eos_explaining.specs.steps.Found.{AreFoundBy, HoldsByNamed};
 ghost use Rattle.eos_explaining.specs.steps.Untold.{IsAfter};
 
-use crate::kinds::{Pick, line_of, picked_of};
+use crate::kinds::{Pick, Picked, line_of};
 use crate::seen::{parts_of, seen_logs};
 use crate::story::{About, story_of};
 use eos_base::Workers;
@@ -77,8 +77,7 @@ fn noted_lines(alloc: Global, spec: &Spec, judged: &Judged) -> Result<String, Al
     Ok(text)
 }
 
-/// What was found in the evidence that was judged, with the faults that are picked. The list of all faults is dropped as
-/// soon as they are counted; that of outputs has no names.
+/// What was found in the evidence that was judged, with the faults that are picked: all are counted, and no others are held.
 pub(crate) fn found_in<S: Source>(
     alloc: Global,
     pieces: &Pieces<'_, S>,
@@ -88,8 +87,14 @@ pub(crate) fn found_in<S: Source>(
     ensures found { IfOk result (AreFoundBy (known_by (S.said pieces.now.source.now) (S.is_log pieces.now.source.now)) pieces.now.shape.now judged.now pick.from pick.most) }
     ensures earned { IfErr result (IsEarned (known_by (S.said pieces.now.source.now) (S.is_log pieces.now.source.now)) (S.outcomes pieces.now.source.now) pieces.now.shape.now.partitions judged.now.logs.faults.items) }
 {
-    let faults = all_faults(alloc, pieces.source, pieces.shape, &judged.logs)?;
-    let picked = picked_of(alloc, faults, pick)?;
+    let mut picked = Picked::new(alloc, pick);
+    all_faults(
+        alloc,
+        pieces.source,
+        pieces.shape,
+        &judged.logs,
+        &mut picked,
+    )?;
     let line = line_of(alloc, &picked.counts)?;
     let notes = noted(alloc, pieces.shape.spec(), judged)?;
     Ok(Findings {

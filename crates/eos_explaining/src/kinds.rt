@@ -1,6 +1,6 @@
 //! How many faults of each kind there are: they are counted one after the other, and only those that are asked for are held.
 
-ghost use Rattle.std.specs.Prelude.{◌≡◌, ◌<◌, ◌++◌, ◌∷◌, [], ℕ, List, Some, length, slice_get, map, flat_map, cond, IfOk, OnOk, string_bytes};
+ghost use Rattle.std.specs.Prelude.{◌≡◌, ◌++◌, ◌∷◌, [], ℕ, List, Some, flat_map, cond, IfOk, OnOk, string_bytes};
 ghost use Rattle.std.specs.BTreeMap.{get};
 ghost use Rattle.std.specs.Ordering.{nat_cmp, is_eq};
 ghost use Rattle.eos_text.specs.Adding.{Adds};
@@ -12,14 +12,12 @@ ghost use Rattle.eos_verdict.specs.declared.verdict.Fault.TheVariants.{Lineage};
 ghost use Rattle.eos_verdict.specs.declared.verdict.Verdict.{Verdict as Named};
 ghost use Rattle.eos_verdict.specs.declared.verdict.Verdict.TheVariants.{No};
 ghost use Rattle.eos_faults.specs.OutputKinds.{IsOfKind};
-ghost use Rattle.eos_source_check.specs.FaultLists.{faults_in};
 ghost use Rattle.eos_explaining.specs.steps.Kinds.{kind_line, kind_at, counts_text};
-ghost use Rattle.eos_explaining.specs.steps.Counting.{IsKindOf, HasKind, AreKinds, IsPicked};
+ghost use Rattle.eos_explaining.specs.steps.Counting.{IsKindOf, HasKind, AreKinds, IsPicked, is_within};
 
 use eos_check::{Fault, Verdict};
 use eos_claims::OutputKind;
-use eos_faults::OutputFaults;
-use eos_source_check::AllFaults;
+use eos_faults::{FaultSink, LentOutput};
 use eos_text::{push_text, push_value};
 use std::alloc::{AllocError, Global};
 use std::collections::BTreeMap;
@@ -54,9 +52,10 @@ pub(crate) struct Pick {
     pub(crate) most: u64,
 }
 
-/// All faults of a list, counted, and those that are held.
+/// All faults that were taken, counted, and those of them that are held.
 #[derive(Drop)]
 pub(crate) struct Picked {
+    pub(crate) pick: Pick,
     pub(crate) counts: KindCounts,
     pub(crate) told: Vec<Verdict>,
 }
@@ -145,81 +144,50 @@ impl KindCounts {
 }
 
 impl Picked {
-    /// With one fault more of the list.
-    fn take(&mut self, fault: Fault, pick: Pick) -> Result<(), AllocError>
-        ensures { (told : List Named) → IsPicked told pick.from pick.most self.old → OnOk result (IsPicked (told ++ No fault ∷ []) pick.from pick.most self.new) }
+    /// Of no fault.
+    pub(crate) fn new(alloc: Global, pick: Pick) -> Picked
+        ensures pick { result.pick ≡ pick }
+        ensures none { IsPicked [] result }
+    {
+        Picked {
+            pick,
+            counts: KindCounts::new(alloc),
+            told: Vec::new(alloc),
+        }
+    }
+
+    /// Whether the next fault is held.
+    fn is_asked(&self) -> bool
+        ensures { result ≡ is_within self.now.pick self.now.counts.all }
     {
         let place = self.counts.all;
+        place >= self.pick.from && place - self.pick.from < self.pick.most
+    }
+}
+
+impl FaultSink for Picked {
+    ghost use Rattle.eos_explaining.specs.steps.Counting.{IsPickedMore};
+
+    ghost takes = { IsPickedMore };
+
+    fn take(&mut self, fault: Fault) -> Result<(), AllocError> {
+        let is_asked = self.is_asked();
         self.counts.take(kind_of(&fault))?;
-        if place >= pick.from && place - pick.from < pick.most {
+        if is_asked {
             self.told.push(Verdict::No(fault))?;
         }
         Ok(())
     }
 
-    /// With the fault more that stands at this place of a lent list. It has names of its own only where it is held.
-    fn take_lent(
-        &mut self,
-        alloc: Global,
-        faults: &OutputFaults<'_>,
-        at: usize,
-        pick: Pick,
-    ) -> Result<(), AllocError>
-        requires { at < length faults.now }
-        ensures { (told : List Named) (fault : OfLineage) → slice_get faults.now at ≡ Some fault → IsPicked told pick.from pick.most self.old → OnOk result (IsPicked (told ++ No (Lineage fault) ∷ []) pick.from pick.most self.new) }
-    {
-        let place = self.counts.all;
-        self.counts.take(kind_of_output(faults.kind(at)))?;
-        if place >= pick.from && place - pick.from < pick.most {
-            let fault = faults.fault(alloc, at)?;
+    /// It has names of its own only where it is held.
+    fn take_output(&mut self, alloc: Global, fault: &LentOutput<'_>) -> Result<(), AllocError> {
+        let is_asked = self.is_asked();
+        self.counts.take(kind_of_output(fault.kind()))?;
+        if is_asked {
+            let fault = fault.own(alloc)?;
             self.told.push(Verdict::No(Fault::Lineage(fault)))?;
         }
         Ok(())
-    }
-}
-
-fn picked_in_list(alloc: Global, faults: Vec<Fault>, pick: Pick) -> Result<Picked, AllocError>
-    ensures { IfOk result (IsPicked (map No faults.items) pick.from pick.most) }
-{
-    let mut all = Picked {
-        counts: KindCounts::new(alloc),
-        told: Vec::new(alloc),
-    };
-    for fault in faults {
-        all.take(fault, pick)?;
-    }
-    Ok(all)
-}
-
-/// Of these only those that are held have names of their own.
-fn picked_in_lent(
-    alloc: Global,
-    faults: &OutputFaults<'_>,
-    pick: Pick,
-) -> Result<Picked, AllocError>
-    ensures { IfOk result (IsPicked (map No (map Lineage faults.now)) pick.from pick.most) }
-{
-    let mut all = Picked {
-        counts: KindCounts::new(alloc),
-        told: Vec::new(alloc),
-    };
-    for at in 0..faults.len() {
-        all.take_lent(alloc, faults, at, pick)?;
-    }
-    Ok(all)
-}
-
-/// Counts these faults, of which those are held that are picked, each as the verdict that names it.
-pub(crate) fn picked_of(
-    alloc: Global,
-    faults: AllFaults<'_>,
-    pick: Pick,
-) -> Result<Picked, AllocError>
-    ensures { IfOk result (IsPicked (map No (faults_in faults.entry)) pick.from pick.most) }
-{
-    match faults {
-        AllFaults::Listed(list) => picked_in_list(alloc, list, pick),
-        AllFaults::OfOutputs(lent) => picked_in_lent(alloc, &lent, pick),
     }
 }
 

@@ -1,7 +1,6 @@
 -- The lists of the applications, one after the other, are the list of all faults of the lineage.
 use Rattle.std.proofs.Common.{◌≡◌, ◌+◌, ◌<◌, ◌≤◌, ℕ, zero, suc, List, [], ◌∷◌, ◌++◌, length, map, get_or, Option, Some, None, refl, sym, subst, ap, ◌∙◌, inl, inr, ◌⊎◌, true, false, Bool, arith, flat_map, if◌then◌else◌}
 use Rattle.std.specs.Prelude.{nat_lt}
-use Rattle.std.specs.List.{AllByRecursion}
 use Rattle.std.specs.List.Sorted.{IsStrictlySortedBy}
 use Rattle.std.specs.Ordering.{nat_cmp, ordering_then}
 use Rattle.std.specs.declared.cmp.Ordering.{Ordering}
@@ -25,6 +24,7 @@ use Rattle.eos_commits.specs.Faults as records
 use Rattle.eos_verdict.specs.declared.lineage_fault.LineageFault.{LineageFault}
 use Rattle.eos_verdict.specs.declared.lineage_fault.LineageFault.TheVariants.{Record, Output}
 use Rattle.eos_commits.specs.Applications.{application_of}
+use Rattle.eos_commits.proofs.SpotFaults.{rises_append}
 use Rattle.eos_lineage.specs.Faults.{named_group, Stands, place_of, lineage_cmp}
 use Rattle.eos_lineage.proofs.FirstFault.{place_is}
 use Rattle.eos_faults.specs.OneInput.{OfOneInput}
@@ -110,16 +110,6 @@ one_ranked apps n (x ∷ ts) r t u (inr h) (inr k) e = one_ranked apps (suc n) t
 
 -- ---- in order
 
-all_append : {X : Type 0} (P : X → Type 0) (xs ys : List X) → AllByRecursion P xs → ((y : X) → Has ys y → P y) → AllByRecursion P (xs ++ ys)
-all_append P [] [] h more = h
-all_append P [] (y ∷ ys) h more = (more y (inl refl), all_append P [] ys h (λ z k. more z (inr k)))
-all_append P (x ∷ xs) ys h more = (h.0, all_append P xs ys h.1 more)
-
-sorted_append : {X : Type 0} (cmp : X → X → Ordering) (xs ys : List X) → IsStrictlySortedBy cmp xs → IsStrictlySortedBy cmp ys → ((x y : X) → Has xs x → Has ys y → cmp x y ≡ Less) → IsStrictlySortedBy cmp (xs ++ ys)
-unfolding IsStrictlySortedBy
-sorted_append cmp [] ys up rise less = rise
-sorted_append cmp (x ∷ xs) ys up rise less = (all_append (λ y. cmp x y ≡ Less) xs ys up.0 (λ y h. less x y (inl refl) h), sorted_append cmp xs ys up.1 rise (λ z y h k. less z y (inr h) k))
-
 one_rises : (apps : List App) (group : Option Group) (fs : List OutputFault) → IsStrictlySortedBy outputs.fault_cmp fs → IsStrictlySortedBy (lineage_cmp apps) (map (in_group group) fs)
 one_rises apps group fs up = plain_rises (in_group group) (lineage_cmp apps) fs (subst (λ (cmp : OutputFault → OutputFault → Ordering). IsStrictlySortedBy cmp fs) same up)
   where
@@ -132,7 +122,7 @@ one_rises apps group fs up = plain_rises (in_group group) (lineage_cmp apps) fs 
 all_rise : (apps : List App) (n : ℕ) (ts : List AppFaults) → AreRanked apps n ts → ((t : AppFaults) → Has ts t → IsStrictlySortedBy outputs.fault_cmp t.faults) → IsStrictlySortedBy (lineage_cmp apps) (flat_map (faults_in apps) ts)
 unfolding IsStrictlySortedBy
 all_rise apps n [] r each = tt
-all_rise apps n (t ∷ ts) r each = sorted_append (lineage_cmp apps) (faults_in apps t) (flat_map (faults_in apps) ts) (one_rises apps (named_group apps t.app) t.faults (each t (inl refl))) (all_rise apps (suc n) ts r.1 (λ u h. each u (inr h))) less
+all_rise apps n (t ∷ ts) r each = rises_append (lineage_cmp apps) (faults_in apps t) (flat_map (faults_in apps) ts) (one_rises apps (named_group apps t.app) t.faults (each t (inl refl))) (all_rise apps (suc n) ts r.1 (λ u h. each u (inr h))) less
   where
     below : (u : AppFaults) → Has ts u → place_of apps (named_group apps t.app) < place_of apps (named_group apps u.app)
     below u h = let p = r.0 in let q = rank_from apps (suc n) ts r.1 u h in omega (arith, p, q)

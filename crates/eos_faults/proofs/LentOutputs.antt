@@ -1,5 +1,5 @@
 -- Faults with lent names, in order and each once, stand for the list of faults.
-use Rattle.std.proofs.Common.{◌≡◌, ◌<◌, ℕ, zero, suc, arith, length, List, [], ◌∷◌, ◌++◌, map, take, Option, Some, None, refl, subst, ap, true, slice_get}
+use Rattle.std.proofs.Common.{◌≡◌, ℕ, List, [], ◌∷◌, map, Option, Some, None, refl, subst, ap, true}
 use Rattle.std.specs.List.Sorted.{IsStrictlySortedBy}
 use Rattle.std.specs.Ordering.{is_eq}
 use Rattle.std.specs.declared.cmp.Ordering.{Ordering}
@@ -46,23 +46,6 @@ lent_all found kept all f h =
     let k = all r.0 r.1 in
     let tied = subst (λ o. is_eq o ≡ true) (lent_same r.0 k.0) k.2 in
     (fault_of k.0, has_map fault_of kept k.0 k.1, subst (λ z. is_eq (fault_cmp z (fault_of k.0)) ≡ true) r.2 tied)
-
--- ---- read by places
-
-pub get_mapped : {X Y : Type 0} (f : X → Y) (xs : List X) (i : ℕ) (x : X) → slice_get xs i ≡ Some x → slice_get (map f xs) i ≡ Some (f x)
-get_mapped f [] i x e = absurd cc
-get_mapped f (y ∷ ys) zero x e = cc
-get_mapped f (y ∷ ys) (suc i) x e = get_mapped f ys i x e
-
-pub some_at : {X : Type 0} (xs : List X) (i : ℕ) → i < length xs → (x : X) × (slice_get xs i ≡ Some x)
-some_at [] i lt = absurd (omega arith)
-some_at (x ∷ xs) zero lt = (x, refl)
-some_at (x ∷ xs) (suc i) lt = some_at xs i (omega (arith, lt))
-
-pub take_next : {X : Type 0} (xs : List X) (i : ℕ) (x : X) → slice_get xs i ≡ Some x → take (suc i) xs ≡ take i xs ++ x ∷ []
-take_next [] i x e = absurd cc
-take_next (y ∷ ys) zero x e = cc
-take_next (y ∷ ys) (suc i) x e = ap (λ zs. y ∷ zs) (take_next ys i x e)
 
 pub map_twice : {X Y Z : Type 0} (g : Y → Z) (f : X → Y) (xs : List X) → map (λ x. g (f x)) xs ≡ map g (map f xs)
 map_twice g f [] = refl

@@ -4,10 +4,11 @@ pub mod GatheredWhole
 pub mod TableSteps
 pub mod SortedClaims
 pub mod LookedUp
+pub mod AllTaken
+pub mod BySource
 pub mod WholeOutputs
 pub mod LentOutputs
 pub mod PushedOnto
-pub mod AllTaken
 pub mod PlacedBatches
 pub mod PlacedEnds
 pub mod AllPlaced
@@ -18,3 +19,5 @@ pub mod SegmentSteps
 pub mod FrontSteps
 pub mod Ties
 pub mod AllFound
+pub mod SourceEnds
+pub mod SinksTaken

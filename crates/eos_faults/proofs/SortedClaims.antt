@@ -69,7 +69,7 @@ behind_one p q r s e up = go q r s (subst (λ z. is_lt (ordering_then z (orderin
     go Equal Greater s e = refl
     go Equal Equal s e = refl
 
-key_up : (c d : VisibleClaim) → is_lt (by_claim c d) ≡ false → is_lt (by_key (key_of c) (key_of d)) ≡ false
+pub key_up : (c d : VisibleClaim) → is_lt (by_claim c d) ≡ false → is_lt (by_key (key_of c) (key_of d)) ≡ false
 key_up c d e = let r = parts_of c d in front_of (place_cmp (place_at c.source) (place_at d.source)) (nat_cmp c.output d.output) (place_cmp (place_at c.at) (place_at d.at)) r.0 (subst (λ o. is_lt o ≡ false) r.1 e)
 
 still_less : {X : Type 0} {cmp : X → X → Ordering} → IsTotalOrder cmp → (x y z : X) → is_lt (cmp y x) ≡ false → is_lt (cmp y z) ≡ true → is_lt (cmp x z) ≡ true

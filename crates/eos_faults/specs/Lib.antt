@@ -4,3 +4,4 @@ pub mod OneInput
 pub mod OutputKinds
 pub mod PartitionPlaces
 pub mod PartitionLists
+pub mod Sinks

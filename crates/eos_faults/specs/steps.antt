@@ -5,3 +5,4 @@ pub mod Tables
 pub mod Taken
 pub mod Found
 pub mod Walks
+pub mod BySource

@@ -1,6 +1,6 @@
-//! All faults of the applications' outputs, as one list.
+//! All faults of the applications' outputs, handed to a sink.
 
-ghost use Rattle.std.specs.Prelude.{◌≡◌, ◌++◌, List, map, option_map, IfOk, OnOk};
+ghost use Rattle.std.specs.Prelude.{◌≡◌, List, map, option_map, IfOk, OnOk};
 ghost use Rattle.eos_base.specs.Least.{NoneStands};
 ghost use Rattle.eos_base.specs.Members.{Has};
 ghost use Rattle.eos_commits.specs.Faults.{AreInOrder, Stands as StandsAtRecord};
@@ -8,35 +8,48 @@ ghost use Rattle.eos_commits.specs.Tables.{IsTableOf};
 ghost use Rattle.eos_evidence.specs.declared.application.App.{App};
 ghost use Rattle.eos_lineage.specs.Faults.{named_group};
 ghost use Rattle.eos_commits.specs.Applications.{application_of};
+ghost use Rattle.eos_verdict.specs.declared.lineage_fault.LineageFault.{LineageFault};
+ghost use Rattle.eos_verdict.specs.declared.verdict.Fault.TheVariants.{Lineage};
 ghost use Rattle.eos_faults.specs.LineageFaults.{AreLineageFaults};
-ghost use Rattle.eos_faults.specs.steps.OutputFaultsGathered.{AreOutputFaults};
-ghost use Rattle.eos_faults.specs.steps.Plain.{fault_of};
-ghost use Rattle.eos_faults.specs.steps.Taken.{named_in};
+ghost use Rattle.eos_faults.specs.Sinks.{TakesAll};
+ghost use Rattle.eos_faults.specs.steps.Tables.{AreInputs, AreTables};
 
-use crate::application::output_faults;
-use crate::lent::LentFault;
-use crate::outputs::OutputFaults;
+use crate::by_source::faults_by_source;
+use crate::commits::{offsets_of, reached_by};
 use crate::reading::{claims_of, inputs_of};
+use crate::sink::FaultSink;
+use crate::tables::Tables;
+use eos_base::Sorted;
 use eos_commits::{CommitTable, TopicSet};
 use eos_evidence::{App, GroupId, Spec};
 use eos_kept::Part;
 use std::alloc::{AllocError, Global};
 
-fn faults_of<'a>(
+/// What an application reads, commits and writes, in these logs.
+fn tables_of<'a>(
     alloc: Global,
     app: &'a App,
     table: &CommitTable<'a>,
     parts: &'a [Part],
-) -> Result<Vec<LentFault<'a>>, AllocError>
+) -> Result<Tables<'a>, AllocError>
     requires { (apps : List App) × IsTableOf apps parts.now table.now × Has apps app.now }
-    ensures { AreInOrder parts.now → IfOk result (λ faults. AreOutputFaults (application_of app.now parts.now) (map fault_of faults.items)) }
+    ensures tables { AreInOrder parts.now → IfOk result (AreTables (application_of app.now parts.now)) }
+    ensures inputs { IfOk result (λ tables. AreInputs (application_of app.now parts.now) tables.inputs) }
 {
     let sources = TopicSet::of(alloc, app.sources.as_slice())?;
     let outputs = TopicSet::of(alloc, app.outputs.as_slice())?;
     let inputs = inputs_of(alloc, &sources, parts)?;
     let claims = claims_of(alloc, &outputs, parts)?;
     let commits = table.commits_of(alloc, app)?;
-    output_faults(alloc, sources, inputs, commits.as_slice(), claims)
+    let offsets = offsets_of(alloc, commits.as_slice())?;
+    let reached = reached_by(alloc, commits.as_slice())?;
+    Ok(Tables {
+        sources,
+        inputs: Sorted::of(inputs),
+        offsets,
+        reached,
+        claims: Sorted::of(claims),
+    })
 }
 
 /// The group that a fault of an application's outputs names.
@@ -50,43 +63,30 @@ fn group_of<'a>(apps: &[App], app: &'a App) -> Option<&'a GroupId>
     }
 }
 
-/// Puts an application's faults at the end.
-fn push_faults<'a>(
-    list: &mut OutputFaults<'a>,
-    group: Option<&'a GroupId>,
-    faults: Vec<LentFault<'a>>,
-) -> Result<(), AllocError>
-    ensures { OnOk result (list.new ≡ list.old ++ map (named_in (option_map (λ g. g.now) group.entry)) faults.entry.items) }
-{
-    for fault in faults {
-        list.push(group, fault)?;
-    }
-    Ok(())
-}
-
-/// Every fault of the applications' outputs that stands, where no fault of a record does, in the order in which the least of
-/// them counts, each once: each kind at each claim by itself. Of the outputs that one input lacks, which may be very many, it
+/// Hands to a sink every fault of the applications' outputs that stands, where no fault of a record does, in the order in which the
+/// least of them counts, each once: each kind at each claim by itself. Of the outputs that one input lacks, which may be very many, it
 /// has the first alone. None where each application's outputs are exact; else the first is that of `check_lineage`.
 ///
 /// The parts are those of all topics, without a fault of their own, ordered by name. The work is that of `check_lineage` by one
-/// thread, look-ups in tables of the claims, and a sort of the faults; the memory is that of all claims of one application,
-/// of tables of them, and of the faults, whose names are lent.
+/// thread, and look-ups among the claims in order; the memory is that of all claims and inputs of one application, and of the faults
+/// of one source, whose names are lent.
 ///
 /// # Errors
-/// Only want of memory.
-pub fn lent_output_faults<'a>(
+/// Only want of memory, here or in the sink, which may have taken some.
+pub fn output_faults<'a, S: FaultSink>(
     alloc: Global,
     spec: &'a Spec,
     parts: &'a [Part],
-) -> Result<OutputFaults<'a>, AllocError>
-    ensures { AreInOrder parts.now → NoneStands (StandsAtRecord spec.now.apps parts.now) → IfOk result (λ faults. AreLineageFaults spec.now.apps parts.now faults) }
+    sink: &mut S,
+) -> Result<(), AllocError>
+    ensures { OnOk result ((list : List LineageFault) × TakesAll S.takes sink.old (map Lineage list) sink.new
+        × (AreInOrder parts.now → NoneStands (StandsAtRecord spec.now.apps parts.now) → AreLineageFaults spec.now.apps parts.now list)) }
 {
     let apps = spec.apps().as_slice();
     let table = CommitTable::of(alloc, apps, parts)?;
-    let mut list = OutputFaults::new(alloc);
     for app in apps {
-        let faults = faults_of(alloc, app, &table, parts)?;
-        push_faults(&mut list, group_of(apps, app), faults)?;
+        let tables = tables_of(alloc, app, &table, parts)?;
+        faults_by_source(alloc, group_of(apps, app), &tables, sink)?;
     }
-    Ok(list)
+    Ok(())
 }

@@ -1,10 +1,11 @@
-//! All faults of a partition's log by itself, and of the applications' outputs: two lists, each in the order that makes the
-//! first of them least.
+//! All faults of a partition's log by itself, and of the applications' outputs, each in the order that makes the first of them
+//! least.
 //!
-//! Of a partition each place of its front shows its faults.
+//! Of a partition each place of its front shows its faults. Those of outputs are handed to a sink, source by source, as they are
+//! found.
 #![tactic(auto)]
 
-mod application;
+mod by_source;
 mod claims;
 mod commits;
 mod every;
@@ -16,10 +17,12 @@ mod reading;
 mod segments;
 mod shown_by_claims;
 mod shown_by_log;
+mod sink;
 mod stops;
 mod tables;
 mod walk;
 
-pub use every::lent_output_faults;
+pub use every::output_faults;
 pub use log_faults::faults_of_partition;
-pub use outputs::OutputFaults;
+pub use outputs::LentOutput;
+pub use sink::FaultSink;

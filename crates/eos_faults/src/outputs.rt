@@ -1,9 +1,9 @@
-//! All faults of the applications' outputs, as a list whose names are lent from the logs.
+//! A fault of the applications' outputs whose names are lent from the logs.
 
-ghost use Rattle.std.specs.Prelude.{◌≡◌, ◌++◌, ◌∷◌, [], ◌<◌, length, option_map, slice_get, Some, IfOk, IfSome, OnOk};
+ghost use Rattle.std.specs.Prelude.{◌≡◌, option_map, IfOk};
 ghost use Rattle.eos_faults.specs.OutputKinds.{IsOfKind};
 ghost use Rattle.eos_faults.specs.steps.Plain.{fault_of, place_at};
-ghost use Rattle.eos_faults.specs.steps.Taken.{named_in, lineage_of};
+ghost use Rattle.eos_faults.specs.steps.Taken.{named_in};
 
 use crate::lent::{LentFault, LentPlace};
 use bytes::Bytes;
@@ -14,28 +14,22 @@ use eos_lineage::LineageFault;
 use std::alloc::{AllocError, Global};
 use std::marker::Model;
 
-/// A fault of an application's outputs, and the group that it names.
-#[derive(Clone, Copy)]
-pub(crate) struct InGroup<'a> {
-    pub group: Option<&'a GroupId>,
-    pub fault: LentFault<'a>,
-}
-
-/// Faults of the applications' outputs. Contracts see the list of them; their names are lent, so that one takes half of the memory of a
-/// `LineageFault`, and no block of its own.
+/// A fault of an application's outputs, and the group that it names. Contracts see the fault; its names are lent, so that it takes no
+/// block of its own.
 #[derive(Drop)]
-pub struct OutputFaults<'a> {
-    faults: Vec<InGroup<'a>>,
+pub struct LentOutput<'a> {
+    pub(crate) group: Option<&'a GroupId>,
+    pub(crate) fault: LentFault<'a>,
 }
 
-impl<'a> Model for OutputFaults<'a> {
-    ghost use Rattle.std.specs.Prelude.{List, map};
+impl<'a> Model for LentOutput<'a> {
     ghost use Rattle.eos_verdict.specs.declared.lineage_fault.LineageFault.{LineageFault as AFault};
-    ghost use Rattle.eos_faults.specs.steps.Taken.{lineage_of};
+    ghost use Rattle.std.specs.Prelude.{option_map};
+    ghost use Rattle.eos_faults.specs.steps.Taken.{named_in};
 
-    ghost Value = { List AFault };
+    ghost Value = { AFault };
 
-    ghost view = { λ o. map lineage_of o.faults.items };
+    ghost view = { λ o. named_in (option_map (λ g. g.now) o.group) o.fault };
 }
 
 /// The place with a name of its own.
@@ -83,59 +77,29 @@ fn own_fault(alloc: Global, fault: &LentFault<'_>) -> Result<OutputFault, AllocE
     })
 }
 
-fn own(alloc: Global, named: &InGroup<'_>) -> Result<LineageFault, AllocError>
-    ensures { IfOk result (λ f. f ≡ lineage_of named.now) }
-{
-    let group = own_group(named.group)?;
-    let fault = own_fault(alloc, &named.fault)?;
-    Ok(LineageFault::Output { group, fault })
-}
-
-impl<'a> OutputFaults<'a> {
-    /// None.
-    pub(crate) fn new(alloc: Global) -> OutputFaults<'a>
-        ensures { result ≡ [] }
+impl<'a> LentOutput<'a> {
+    pub(crate) fn new(group: Option<&'a GroupId>, fault: LentFault<'a>) -> LentOutput<'a>
+        ensures { result ≡ named_in (option_map (λ r. r.now) group.entry) fault.entry }
     {
-        OutputFaults {
-            faults: Vec::new(alloc),
-        }
+        LentOutput { group, fault }
     }
 
-    /// Puts a fault at the end.
-    pub(crate) fn push(
-        &mut self,
-        group: Option<&'a GroupId>,
-        fault: LentFault<'a>,
-    ) -> Result<(), AllocError>
-        ensures { OnOk result (self.new ≡ self.old ++ named_in (option_map (λ r. r.now) group.entry) fault.entry ∷ []) }
+    /// Its kind.
+    pub fn kind(&self) -> OutputKind
+        ensures { IsOfKind result self.now }
     {
-        self.faults.push(InGroup { group, fault })?;
-        Ok(())
+        self.fault.kind
     }
 
-    /// The number of faults.
-    pub fn len(&self) -> usize
-        ensures { result ≡ length self.now }
-    {
-        self.faults.len()
-    }
-
-    /// The kind of the fault at this place.
-    pub fn kind(&self, at: usize) -> OutputKind
-        requires { at < length self.now }
-        ensures { IfSome (slice_get self.now at) (IsOfKind result) }
-    {
-        self.faults[at].fault.kind
-    }
-
-    /// The fault at this place, with names of its own.
+    /// The fault with names of its own.
     ///
     /// # Errors
     /// Only want of memory.
-    pub fn fault(&self, alloc: Global, at: usize) -> Result<LineageFault, AllocError>
-        requires { at < length self.now }
-        ensures { IfOk result (λ f. slice_get self.now at ≡ Some f) }
+    pub fn own(&self, alloc: Global) -> Result<LineageFault, AllocError>
+        ensures { IfOk result (λ f. f ≡ self.now) }
     {
-        own(alloc, &self.faults[at])
+        let group = own_group(self.group)?;
+        let fault = own_fault(alloc, &self.fault)?;
+        Ok(LineageFault::Output { group, fault })
     }
 }

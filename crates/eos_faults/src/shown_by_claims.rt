@@ -124,13 +124,13 @@ fn push_input<'a>(
 fn push_claims<'a>(
     faults: &mut Vec<LentFault<'a>>,
     tables: &Tables<'a>,
+    marks: &mut Marks,
     claims: &[VisibleClaim<'a>],
 ) -> Result<(), AllocError>
     ensures { (a : Application) → AreTables a tables.now → OnOk result (map fault_of faults.new.items ≡ map fault_of faults.old.items ++ flat_map (shown_at a) (map claim_at claims.now)) }
 {
-    let mut marks = Marks::new();
     for claim in claims {
-        push_claim(faults, tables, &mut marks, claim)?;
+        push_claim(faults, tables, marks, claim)?;
     }
     Ok(())
 }
@@ -138,26 +138,29 @@ fn push_claims<'a>(
 fn push_inputs<'a>(
     faults: &mut Vec<LentFault<'a>>,
     tables: &Tables<'a>,
+    marks: &mut Marks,
     inputs: &[LentPlace<'a>],
 ) -> Result<(), AllocError>
     ensures { (a : Application) → AreTables a tables.now → OnOk result (map fault_of faults.new.items ≡ map fault_of faults.old.items ++ flat_map (lacking a) (map place_at inputs.now)) }
 {
-    let mut marks = Marks::new();
     for input in inputs {
-        push_input(faults, tables, &mut marks, input)?;
+        push_input(faults, tables, marks, input)?;
     }
     Ok(())
 }
 
-/// The faults of one application's outputs as they are found.
+/// What these claims show, and what these inputs lack, as it is found.
 pub(crate) fn found<'a>(
     alloc: Global,
     tables: &Tables<'a>,
+    marks: &mut Marks,
+    claims: &[VisibleClaim<'a>],
+    inputs: &[LentPlace<'a>],
 ) -> Result<Vec<LentFault<'a>>, AllocError>
-    ensures { (a : Application) → AreTables a tables.now → IfOk result (λ faults. map fault_of faults.items ≡ gathered_by a (map claim_at tables.now.claims) (map place_at tables.now.inputs)) }
+    ensures { (a : Application) → AreTables a tables.now → IfOk result (λ faults. map fault_of faults.items ≡ gathered_by a (map claim_at claims.now) (map place_at inputs.now)) }
 {
     let mut faults = Vec::new(alloc);
-    push_claims(&mut faults, tables, tables.claims.as_slice())?;
-    push_inputs(&mut faults, tables, tables.inputs.as_slice())?;
+    push_claims(&mut faults, tables, marks, claims)?;
+    push_inputs(&mut faults, tables, marks, inputs)?;
     Ok(faults)
 }

@@ -25,3 +25,4 @@ pub mod RisingTimes
 pub mod EachTimes
 pub mod FoldersRefused
 pub mod FoldersRead
+pub mod TakenMore

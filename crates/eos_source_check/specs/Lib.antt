@@ -1,7 +1,6 @@
 pub mod Judged
 pub mod steps
 pub mod AllFaults
-pub mod FaultLists
 pub mod LaterFaults
 pub mod Again
 pub mod Listed

@@ -1,132 +1,111 @@
-//! All faults of the phases behind the first, over logs, whole or kept: the list of the first of these phases that has one.
+//! All faults of the phases behind the first, over logs, whole or kept: those of the first of these phases that has one.
 
-ghost use Rattle.std.specs.Prelude.{◌≡◌, IfOk, map};
+ghost use Rattle.std.specs.Prelude.{OnOk, map};
 ghost use Rattle.eos_base.specs.Least.{NoneStands};
 ghost use Rattle.eos_commits.specs.Faults.{AreInOrder};
 ghost use Rattle.eos_verdict.specs.declared.lineage_fault.LineageFault.TheVariants.{Record};
 ghost use Rattle.eos_verdict.specs.declared.verdict.Fault.TheVariants.{Log, Match, Lineage};
 ghost use Rattle.eos_check.specs.Verdicts.{StandsInLog, StandsInMatching};
-ghost use Rattle.eos_source_check.specs.FaultLists.{faults_in};
+ghost use Rattle.eos_faults.specs.Sinks.{TakesAll, TakesList};
 ghost use Rattle.eos_source_check.specs.LaterFaults.{AreLaterFaults};
 
-use crate::lists::AllFaults;
 use eos_check::Fault;
 use eos_commits::{VisibleFault, all_record_faults};
 use eos_evidence::Spec;
-use eos_faults::lent_output_faults;
+use eos_faults::{FaultSink, output_faults};
 use eos_kept::{Logs, Part};
 use eos_lineage::LineageFault;
 use eos_table::{LogFault, MatchFault, all_log_faults, all_match_faults};
 use std::alloc::{AllocError, Global};
 
-fn of_log(alloc: Global, faults: Vec<LogFault>) -> Result<Vec<Fault>, AllocError>
-    ensures { IfOk result (λ list. list.items ≡ map Log faults.items) }
+fn take_log<S: FaultSink>(faults: Vec<LogFault>, sink: &mut S) -> Result<(), AllocError>
+    ensures { OnOk result (TakesAll S.takes sink.old (map Log faults.items) sink.new) }
 {
-    let mut list = Vec::new(alloc);
     for fault in faults {
-        list.push(Fault::Log(fault))?;
+        sink.take(Fault::Log(fault))?;
     }
-    Ok(list)
+    Ok(())
 }
 
-fn of_matching(alloc: Global, faults: Vec<MatchFault>) -> Result<Vec<Fault>, AllocError>
-    ensures { IfOk result (λ list. list.items ≡ map Match faults.items) }
+fn take_matching<S: FaultSink>(faults: Vec<MatchFault>, sink: &mut S) -> Result<(), AllocError>
+    ensures { OnOk result (TakesAll S.takes sink.old (map Match faults.items) sink.new) }
 {
-    let mut list = Vec::new(alloc);
     for fault in faults {
-        list.push(Fault::Match(fault))?;
+        sink.take(Fault::Match(fault))?;
     }
-    Ok(list)
+    Ok(())
 }
 
-fn of_records(alloc: Global, faults: Vec<VisibleFault>) -> Result<Vec<LineageFault>, AllocError>
-    ensures { IfOk result (λ list. list.items ≡ map Record faults.items) }
+fn take_records<S: FaultSink>(faults: Vec<VisibleFault>, sink: &mut S) -> Result<(), AllocError>
+    ensures { OnOk result (TakesAll S.takes sink.old (map Lineage (map Record faults.items)) sink.new) }
 {
-    let mut list = Vec::new(alloc);
     for fault in faults {
-        list.push(LineageFault::Record(fault))?;
+        sink.take(Fault::Lineage(LineageFault::Record(fault)))?;
     }
-    Ok(list)
+    Ok(())
 }
 
-fn of_lineage(alloc: Global, faults: Vec<LineageFault>) -> Result<Vec<Fault>, AllocError>
-    ensures { IfOk result (λ list. list.items ≡ map Lineage faults.items) }
-{
-    let mut list = Vec::new(alloc);
-    for fault in faults {
-        list.push(Fault::Lineage(fault))?;
-    }
-    Ok(list)
-}
-
-/// Where neither the transaction log nor the matching has a fault: the fourth phase, or else the fifth.
-fn after_matching<'a>(
+/// Where neither the transaction log nor the matching has a fault: those of the fourth phase, or else of the fifth.
+fn after_matching<S: FaultSink>(
     alloc: Global,
-    spec: &'a Spec,
-    logs: &'a [Part],
-) -> Result<AllFaults<'a>, AllocError>
-    ensures { AreInOrder logs.now → NoneStands (StandsInLog logs.now) → NoneStands (StandsInMatching logs.now)
-        → IfOk result (λ faults. AreLaterFaults spec.now.apps logs.now (faults_in faults)) }
+    spec: &Spec,
+    logs: &[Part],
+    sink: &mut S,
+) -> Result<(), AllocError>
+    ensures { OnOk result (TakesList S.takes sink.old (λ list. AreInOrder logs.now → NoneStands (StandsInLog logs.now) → NoneStands (StandsInMatching logs.now)
+        → AreLaterFaults spec.now.apps logs.now list) sink.new) }
 {
     let faults = all_record_faults(alloc, spec.apps().as_slice(), logs)?;
     if faults.is_empty() {
-        let lent = lent_output_faults(alloc, spec, logs)?;
-        return Ok(AllFaults::OfOutputs(lent));
+        output_faults(alloc, spec, logs, sink)?;
+        return Ok(());
     }
-    let records = of_records(alloc, faults)?;
-    let list = of_lineage(alloc, records)?;
-    Ok(AllFaults::Listed(list))
+    take_records(faults, sink)?;
+    Ok(())
 }
 
 /// Where the transaction log has no fault.
-fn after_log<'a>(
+fn after_log<S: FaultSink>(
     alloc: Global,
-    spec: &'a Spec,
-    logs: &'a [Part],
-) -> Result<AllFaults<'a>, AllocError>
-    ensures { AreInOrder logs.now → NoneStands (StandsInLog logs.now) → IfOk result (λ faults. AreLaterFaults spec.now.apps logs.now (faults_in faults)) }
+    spec: &Spec,
+    logs: &[Part],
+    sink: &mut S,
+) -> Result<(), AllocError>
+    ensures { OnOk result (TakesList S.takes sink.old (λ list. AreInOrder logs.now → NoneStands (StandsInLog logs.now) → AreLaterFaults spec.now.apps logs.now list) sink.new) }
 {
     let faults = all_match_faults(alloc, logs)?;
     if faults.is_empty() {
-        let list = after_matching(alloc, spec, logs)?;
-        return Ok(list);
+        after_matching(alloc, spec, logs, sink)?;
+        return Ok(());
     }
-    let list = of_matching(alloc, faults)?;
-    Ok(AllFaults::Listed(list))
+    take_matching(faults, sink)?;
+    Ok(())
 }
 
-fn after_partitions<'a>(
-    alloc: Global,
-    spec: &'a Spec,
-    logs: &'a [Part],
-) -> Result<AllFaults<'a>, AllocError>
-    ensures { AreInOrder logs.now → IfOk result (λ faults. AreLaterFaults spec.now.apps logs.now (faults_in faults)) }
-{
-    let faults = all_log_faults(alloc, logs)?;
-    if faults.is_empty() {
-        let list = after_log(alloc, spec, logs)?;
-        return Ok(list);
-    }
-    let list = of_log(alloc, faults)?;
-    Ok(AllFaults::Listed(list))
-}
-
-/// Every fault of the phases behind the first that stands in these logs, whole or kept ones, as if none had a fault by itself: in
-/// the verdict's order, each once, and of the outputs that one input lacks the first alone. They are of the first of these phases
-/// that has one. Where no partition of an evidence has a fault by itself, they are all faults of the evidence, over its logs or
+/// Hands to a sink every fault of the phases behind the first that stands in these logs, whole or kept ones, as if none had a fault by
+/// itself: in the verdict's order, each once, and of the outputs that one input lacks the first alone. They are of the first of these
+/// phases that has one. Where no partition of an evidence has a fault by itself, they are all faults of the evidence, over its logs or
 /// over what is kept of them (`laws::later`).
 ///
-/// The work is that of the check by one thread, and a sort of what is found; the memory is that of the check, and of the faults.
+/// The work is that of the check by one thread, and a sort of what is found; the memory is that of the check, and of the faults of
+/// one phase, but for those of outputs, which are handed on as they are found.
 ///
 /// # Errors
-/// Only want of memory.
-pub fn later_faults<'a>(
+/// Only want of memory, here or in the sink, which may have taken some.
+pub fn later_faults<S: FaultSink>(
     alloc: Global,
-    spec: &'a Spec,
-    logs: &'a Logs,
-) -> Result<AllFaults<'a>, AllocError>
-    ensures { AreInOrder logs.now.parts.items → IfOk result (λ faults. AreLaterFaults spec.now.apps logs.now.parts.items (faults_in faults)) }
+    spec: &Spec,
+    logs: &Logs,
+    sink: &mut S,
+) -> Result<(), AllocError>
+    ensures { OnOk result (TakesList S.takes sink.old (λ list. AreInOrder logs.now.parts.items → AreLaterFaults spec.now.apps logs.now.parts.items list) sink.new) }
 {
-    let all = after_partitions(alloc, spec, logs.parts.as_slice())?;
-    Ok(all)
+    let logs = logs.parts.as_slice();
+    let faults = all_log_faults(alloc, logs)?;
+    if faults.is_empty() {
+        after_log(alloc, spec, logs, sink)?;
+        return Ok(());
+    }
+    take_log(faults, sink)?;
+    Ok(())
 }

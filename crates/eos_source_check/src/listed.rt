@@ -1,10 +1,10 @@
 //! All faults, of the first phase that has one.
 
-ghost use Rattle.std.specs.Prelude.{◌≡◌, length, map, take, slice_get, IfOk, IfErr};
+ghost use Rattle.std.specs.Prelude.{◌≡◌, length, map, take, slice_get, IfOk, IfErr, OnOk};
 ghost use Rattle.eos_verdict.specs.declared.verdict.Fault.TheVariants.{Partition as InPartition};
 ghost use Rattle.eos_kept.specs.Faults.{first_of};
 ghost use Rattle.eos_source.specs.Said.{known_by};
-ghost use Rattle.eos_source_check.specs.FaultLists.{faults_in};
+ghost use Rattle.eos_faults.specs.Sinks.{TakesAll, TakesList};
 ghost use Rattle.eos_source_check.specs.Listed.{IsListOf, BeginsAsFound};
 ghost use Rattle.eos_source_check.specs.Refusals.{IsNoLog, IsEarned};
 ghost use Rattle.eos_source_check.specs.steps.FaultsAgain.{AreListedAgain};
@@ -12,9 +12,9 @@ ghost use Rattle.eos_source_check.specs.steps.FaultsAgain.{AreListedAgain};
 use crate::again::faults_if_found;
 use crate::fault::Unlisted;
 use crate::later::later_faults;
-use crate::lists::{AllFaults, listed};
 use eos_check::Fault;
 use eos_evidence::Evidence;
+use eos_faults::FaultSink;
 use eos_kept::Logs;
 use eos_source::Source;
 use eos_touch::PartitionFault;
@@ -44,49 +44,52 @@ fn partition_faults<S: Source>(
     Ok(list)
 }
 
-/// The faults of partitions by themselves, as faults of an evidence, in the same order.
-fn of_partitions(alloc: Global, faults: Vec<PartitionFault>) -> Result<Vec<Fault>, AllocError>
-    ensures { IfOk result (λ list. list.items ≡ map InPartition faults.items) }
+fn take_partitions<T: FaultSink>(
+    faults: Vec<PartitionFault>,
+    sink: &mut T,
+) -> Result<(), AllocError>
+    ensures { OnOk result (TakesAll T.takes sink.old (map InPartition faults.items) sink.new) }
 {
-    let mut list = Vec::new(alloc);
     for fault in faults {
-        list.push(Fault::Partition(fault))?;
+        sink.take(Fault::Partition(fault))?;
     }
-    Ok(list)
+    Ok(())
 }
 
-/// Every fault of the evidence of this shape of whose logs these are kept, as `judge_source` keeps them, in the verdict's order, each
-/// once; but of the outputs that one input lacks the first alone. Where a partition has a fault by itself, these are of the
-/// partitions, and each one that has is read again from the source: it is true of an evidence that has these partitions as they
-/// were read again. Since a fault of a phase counts only where none of the phases before stands, they are of one phase.
+/// Hands to a sink every fault of the evidence of this shape of whose logs these are kept, as `judge_source` keeps them, in the
+/// verdict's order, each once; but of the outputs that one input lacks the first alone. Where a partition has a fault by itself, these
+/// are of the partitions, and each one that has is read again from the source: it is true of an evidence that has these partitions as
+/// they were read again. Since a fault of a phase counts only where none of the phases before stands, they are of one phase.
 ///
-/// Beside what is kept, memory is that of one such partition, whole, and of the faults, those of outputs without their names.
+/// Beside what is kept, memory is that of one such partition, whole, or of the faults of a phase, but for those of outputs: of these
+/// all claims of one application are put in order.
 ///
 /// # Errors
 /// Of a partition that is read again: a piece that isn't there or is a fold, or that its least fault is another than the one that was
-/// found; or want of memory.
-pub fn all_faults<'a, S: Source>(
+/// found; or want of memory. The sink may have taken some.
+pub fn all_faults<S: Source, T: FaultSink>(
     alloc: Global,
     source: &S,
-    shape: &'a Evidence,
-    logs: &'a Logs,
-) -> Result<AllFaults<'a>, Unlisted<S::Fault>>
-    ensures ok { IfOk result (λ faults. IsListOf (known_by (S.said source.now) (S.is_log source.now)) shape.now logs.now (faults_in faults)) }
-    ensures first { IfOk result (λ faults. BeginsAsFound shape.now logs.now (faults_in faults)) }
+    shape: &Evidence,
+    logs: &Logs,
+    sink: &mut T,
+) -> Result<(), Unlisted<S::Fault>>
+    ensures ok { OnOk result (TakesList T.takes sink.old (λ list. IsListOf (known_by (S.said source.now) (S.is_log source.now)) shape.now logs.now list
+        × BeginsAsFound shape.now logs.now list) sink.new) }
     ensures fold { IfErr result (λ why. IsNoLog (S.is_log source.now) why) }
     ensures earned { IfErr result (IsEarned (known_by (S.said source.now) (S.is_log source.now)) (S.outcomes source.now) shape.now.partitions logs.now.faults.items) }
 {
     let spec = shape.spec();
     if let Some(_fault) = logs.first_fault() {
         let faults = partition_faults(alloc, source, shape, logs.faults.as_slice())?;
-        let list = of_partitions(alloc, faults)?;
-        return Ok(AllFaults::Listed(list));
+        take_partitions(faults, sink)?;
+        return Ok(());
     }
-    let later = later_faults(alloc, spec, logs)?;
-    Ok(later)
+    later_faults(alloc, spec, logs, sink)?;
+    Ok(())
 }
 
-/// The same, each with names of its own.
+/// The same, as a list.
 ///
 /// # Errors
 /// Those of `all_faults`.
@@ -101,7 +104,7 @@ pub fn all_source_faults<S: Source>(
     ensures fold { IfErr result (λ why. IsNoLog (S.is_log source.now) why) }
     ensures earned { IfErr result (IsEarned (known_by (S.said source.now) (S.is_log source.now)) (S.outcomes source.now) shape.now.partitions logs.now.faults.items) }
 {
-    let faults = all_faults(alloc, source, shape, logs)?;
-    let list = listed(alloc, faults)?;
+    let mut list = Vec::new(alloc);
+    all_faults(alloc, source, shape, logs, &mut list)?;
     Ok(list)
 }

@@ -1,5 +1,5 @@
 -- What has been counted of these faults, each as a verdict names it, and which of them are held.
-use Rattle.std.specs.Prelude.{◌≡◌, ℕ, List, Option, Some, None, length, filter, take, drop}
+use Rattle.std.specs.Prelude.{◌≡◌, ◌-◌, ◌&&◌, ◌++◌, ◌∷◌, [], ℕ, Bool, nat_le, nat_lt, List, Option, Some, None, length, filter, take, drop}
 use Rattle.std.specs.BTreeMap.{get}
 use Rattle.std.specs.Ordering.{nat_cmp}
 use Rattle.eos_verdict.specs.Counts.{has_number, first_with}
@@ -10,6 +10,7 @@ use Rattle.eos_verdict.specs.declared.verdict.Verdict.TheVariants.{No}
 use Rattle.eos_explaining.specs.declared.kinds.Kind.{Kind}
 use Rattle.eos_explaining.specs.declared.kinds.KindCount.{KindCount}
 use Rattle.eos_explaining.specs.declared.kinds.KindCounts.{KindCounts}
+use Rattle.eos_explaining.specs.declared.kinds.Pick.{Pick}
 use Rattle.eos_explaining.specs.declared.kinds.Picked.{Picked}
 
 -- the kind of a fault
@@ -35,7 +36,16 @@ pub record AreKinds (told : List Verdict) (counts : KindCounts) : Type 0 where
   pub all : counts.all ≡ length told
   pub each : (n : ℕ) → HasKind told n (get nat_cmp counts.kinds n)
 
--- so many from this place on are held
-pub record IsPicked (told : List Verdict) (from most : ℕ) (p : Picked) : Type 0 where
+-- whether the fault at this place is held
+abbrev pub is_within : Pick → ℕ → Bool
+is_within p n = nat_le p.from n && nat_lt (n - p.from) p.most
+
+-- so many from a place on are held
+pub record IsPicked (told : List Verdict) (p : Picked) : Type 0 where
   pub counts : AreKinds told p.counts
-  pub held : p.told.items ≡ take most (drop from told)
+  pub held : p.told.items ≡ take p.pick.most (drop p.pick.from told)
+
+-- the same with a fault more
+pub record IsPickedMore (old : Picked) (fault : Fault) (new : Picked) : Type 0 where
+  pub pick : new.pick ≡ old.pick
+  pub picked : (told : List Verdict) → IsPicked told old → IsPicked (told ++ No fault ∷ []) new

@@ -45,6 +45,13 @@ pub record AreClaims (a : Application) (cs : List VisibleClaim) : Type 0 where
   pub sound : (c : PlacedClaim) → Has (map claim_at cs) c → Has a.claims c
   pub whole : (c : PlacedClaim) → Has a.claims c → Has (map claim_at cs) c
 
+-- ---- inputs in their order
+
+-- these are the application's inputs, in whatever order
+pub record AreInputs (a : Application) (is : List LentPlace) : Type 0 where
+  pub sound : (i : Place) → Has (map place_at is) i → Has a.inputs i
+  pub whole : (i : Place) → Has a.inputs i → Has (map place_at is) i
+
 -- ---- the commits
 
 abbrev pub next_offset : PartitionName → Option ℤ → Commit → Option ℤ

@@ -1,5 +1,5 @@
 -- The faults of applications one after the other.
-use Rattle.std.specs.Prelude.{◌≡◌, Option, option_map, List, map, flat_map}
+use Rattle.std.specs.Prelude.{◌≡◌, Option, List, map, flat_map}
 use Rattle.eos_base.specs.Members.{Has}
 use Rattle.eos_evidence.specs.declared.application.App.{App}
 use Rattle.eos_fold.specs.Parts.{PartLog}
@@ -10,7 +10,6 @@ use Rattle.eos_verdict.specs.declared.lineage_fault.LineageFault.TheVariants.{Ou
 use Rattle.eos_commits.specs.Applications.{application_of}
 use Rattle.eos_lineage.specs.Faults.{named_group}
 use Rattle.eos_faults.specs.declared.lent.LentFault.{LentFault}
-use Rattle.eos_faults.specs.declared.outputs.InGroup.{InGroup}
 use Rattle.eos_faults.specs.steps.OutputFaultsGathered.{AreOutputFaults}
 use Rattle.eos_faults.specs.steps.Plain.{fault_of}
 
@@ -20,9 +19,6 @@ in_group group f = Output group f
 -- the same of a fault whose names are lent
 abbrev pub named_in : Option Group → LentFault → LineageFault
 named_in group f = in_group group (fault_of f)
-
-abbrev pub lineage_of : InGroup → LineageFault
-lineage_of g = named_in (option_map (λ r. r.now) g.group) g.fault
 
 -- an application, and the list of its faults
 pub record AppFaults : Type 0 where

@@ -1,21 +1,30 @@
-use Rattle.std.proofs.Common.{◌≡◌, length, sym, subst, arith, ◌∙◌}
+use Rattle.std.proofs.Common.{◌≡◌, length, map, sym, arith, ◌∙◌}
 use Rattle.eos_check.specs.Verdicts.{StandsInMatching}
-use Rattle.eos_source_check.specs.LaterFaults.{AreLaterFaults}
+use Rattle.eos_verdict.specs.declared.verdict.Fault.TheVariants.{Match}
 use Rattle.eos_source_check.proofs.AllPhases.{none_there, found_in_matching}
 use Rattle.eos_source_check.proofs.later.after_log.Goals as goal
 
 pub returns-then-is_empty : goal.returns-then-is_empty
-returns-then-is_empty c = λ order no_log.
+returns-then-is_empty g c =
     let faults = c.in_ok-faults.faults in
     let ok = faults.ok in
     let len : faults.len ≡ length faults.items = omega (arith, ok) in
-    c.in_ok-list.ensures order no_log
-    (none_there (StandsInMatching c.args.logs.now) faults.items faults.len len (sym c.is_empty.ensures ∙ c.if-is_empty.true) c.in_ok-faults.ensures)
+    let told = c.in_ok-after_matching.ensures in
+    record {
+      list = told.list;
+      taken = told.taken;
+      holds = λ order no_log.
+          told.holds order no_log (none_there (StandsInMatching c.args.logs.now) faults.items faults.len len (sym c.is_empty.ensures ∙ c.if-is_empty.true) c.in_ok-faults.ensures);
+    }
 
 pub returns : goal.returns
-returns c = λ order no_log.
+returns g c =
     let faults = c.in_ok-faults.faults in
     let ok = faults.ok in
     let len : faults.len ≡ length faults.items = omega (arith, ok) in
-    subst (AreLaterFaults c.args.spec.now.apps c.args.logs.now) (sym c.in_ok-list-2.ensures)
-    (found_in_matching c.args.spec.now.apps c.args.logs.now no_log faults.items faults.len len (sym c.is_empty.ensures ∙ c.if-is_empty.false) c.in_ok-faults.ensures)
+    record {
+      list = map Match faults.items;
+      taken = c.in_ok-take_matching.ensures;
+      holds = λ order no_log.
+          found_in_matching c.args.spec.now.apps c.args.logs.now no_log faults.items faults.len len (sym c.is_empty.ensures ∙ c.if-is_empty.false) c.in_ok-faults.ensures;
+    }

@@ -1,9 +1,9 @@
-use Rattle.std.proofs.Common.{◌≡◌, List, length, take, Option, Some, None, ap, subst, ◌∙◌, rules}
+use Rattle.std.proofs.Common.{◌≡◌, List, length, map, take, Option, Some, None, refl, ap, subst, ◌∙◌, rules}
 use Rattle.std.proofs.lemmas.Result.{err_from_is_err_and}
 use Rattle.eos_evidence.specs.SpecFields.{SpecFields}
 use Rattle.eos_touch.specs.declared.fault.PartitionFault.{PartitionFault}
 use Rattle.eos_kept.specs.Faults.{first_of}
-use Rattle.eos_source_check.specs.FaultLists.{faults_in}
+use Rattle.eos_verdict.specs.declared.verdict.Fault.TheVariants.{Partition as InPartition}
 use Rattle.eos_source_check.specs.LaterFaults.{AreLaterFaults}
 use Rattle.eos_source.specs.Said.{known_by}
 use Rattle.eos_source_check.specs.Refusals.{IsEarned}
@@ -20,28 +20,28 @@ returns-in-Some-clause-ok g c =
     let list = c.in_ok-faults.faults.items in
     let found : first_of logs.faults.items ≡ Some c.in-Some._fault.now = search rules in
     let listed = subst (λ (fs : List (Option PartitionFault)). AreListedAgain known shape.partitions fs list) c.as_slice.ensures.value c.in_ok-faults.ensures.ok in
-    partitions_listed known shape logs c.in-Some._fault.now list _ c.spec-spec.ensures.evidence found listed c.in_ok-list.ensures
+    let first = c.in_ok-faults.ensures.first ∙ ap (λ (fs : List (Option PartitionFault)). first_of (take (length shape.partitions) fs)) c.as_slice.ensures.value in
+    record {
+      list = map InPartition list;
+      taken = c.in_ok-take_partitions.ensures;
+      holds = (partitions_listed known shape logs c.in-Some._fault.now list _ c.spec-spec.ensures.evidence found listed refl, begins shape logs list _ first refl);
+    }
 
 pub returns-clause-ok : goal.returns-clause-ok
 returns-clause-ok g c =
     let known = known_by (g.S.Source.said c.args.source.now) (g.S.Source.is_log c.args.source.now) in
     let shape = c.args.shape.now in
     let logs = c.args.logs.now in
-    let list = faults_in c.in_ok-later.later in
+    let told = c.in_ok-later_faults.ensures in
     let found : first_of logs.faults.items ≡ None = search rules in
-    later_listed known shape logs list found (λ order. subst (λ (s : SpecFields). AreLaterFaults s.apps logs.parts.items list) c.spec-spec.ensures.value (c.in_ok-later.ensures order))
-
-pub returns-in-Some-clause-first : goal.returns-in-Some-clause-first
-returns-in-Some-clause-first g c =
-    let shape = c.args.shape.now in
-    let list = c.in_ok-faults.faults.items in
-    let first = c.in_ok-faults.ensures.first ∙ ap (λ (fs : List (Option PartitionFault)). first_of (take (length shape.partitions) fs)) c.as_slice.ensures.value in
-    begins shape c.args.logs.now list _ first c.in_ok-list.ensures
-
-pub returns-clause-first : goal.returns-clause-first
-returns-clause-first g c =
-    let found : first_of c.args.logs.now.faults.items ≡ None = search rules in
-    none_found c.args.shape.now c.args.logs.now (faults_in c.in_ok-later.later) found
+    record {
+      list = told.list;
+      taken = told.taken;
+      holds = (
+        later_listed known shape logs told.list found (λ order. subst (λ (s : SpecFields). AreLaterFaults s.apps logs.parts.items told.list) c.spec-spec.ensures.value (told.holds order)),
+        none_found shape logs told.list found,
+      );
+    }
 
 pub returns-in_err-faults-clause-earned : goal.returns-in_err-faults-clause-earned
 returns-in_err-faults-clause-earned g c =

@@ -1,6 +1,0 @@
-use Rattle.std.proofs.Common.{◌≡◌, map}
-use Rattle.eos_verdict.specs.declared.verdict.Fault.TheVariants.{Lineage}
-use Rattle.eos_source_check.proofs.later.of_lineage.Given as goal
-
-abbrev pub invariant-loop-fault : goal.invariant-loop-fault
-invariant-loop-fault l = l.list.items ≡ map Lineage l.yielded
