@@ -1,7 +1,6 @@
 mod Changed
 pub mod Kept
 pub mod OneShape
-pub mod ReadWhole
 pub mod WholeFiles
 pub mod JustWritten
 pub mod InMemory
@@ -26,6 +25,3 @@ mod Places
 mod ShapeRead
 mod Staying
 mod WrittenMore
-mod FilesFilled
-mod FirstUnread
-mod NamesInOrder

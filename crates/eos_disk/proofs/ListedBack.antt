@@ -7,7 +7,7 @@ use Rattle.std.specs.Ordering.{int_cmp, int_eq, on}
 use Rattle.std.specs.declared.cmp.Ordering.TheVariants.{Less}
 use Rattle.std.proofs.lemmas.Bool.Decides.{Decides-int_eq}
 use Rattle.std.proofs.lemmas.Int.{ints}
-use Rattle.std.proofs.lemmas.List.{append_cancel_left, length-map}
+use Rattle.std.proofs.lemmas.List.{append_cancel_left, length-map, map-append}
 use Rattle.std.proofs.lemmas.Slice.Eq.{bytes_eq-Decides}
 use Rattle.eos_base.specs.Members.{Has}
 use Rattle.eos_base.proofs.Membership.{flat_has, has_flat, map_has, has_map}
@@ -26,7 +26,6 @@ use Rattle.eos_disk.specs.declared.names.Form.TheVariants.{Log}
 use Rattle.eos_disk.specs.Names.{file_in_name}
 use Rattle.eos_disk.specs.Paths.{path_of_end, segment_path}
 use Rattle.eos_disk.specs.Reading.{name_of, names_only, shape_of, AreAllLogs, HasItsBytes, IsReadWhole}
-use Rattle.eos_disk.proofs.ReadWhole.{named_segments}
 use Rattle.eos_disk.specs.Writing.{IsEvidenceWritten}
 use Rattle.eos_disk.specs.Shapes.{HasListing, IsListed, AreListed, AreKnown, segment_of}
 use Rattle.eos_disk.specs.Written.{below, IsEmptyAt, places_of, all_places, HoldsJust, IsThere, has_slash, HasListings}
@@ -293,6 +292,10 @@ shape_rising (s ∷ ss) up = (shape_above s ss up.0, shape_rising ss up.1)
 shape_each : (ps : List Partition) → AllByRecursion IsPartition ps → AllByRecursion IsPartition (map names_only ps)
 shape_each [] each = tt
 shape_each (p ∷ ps) each = (record { own = shape_own p.end p.segments each.0.own; rising = shape_rising p.segments each.0.rising }, shape_each ps each.1)
+
+named_segments : (ps : List Partition) → segments_of (map names_only ps) ≡ map name_of (segments_of ps)
+named_segments [] = refl
+named_segments (p ∷ ps) = ap (λ (l : List Segment). map name_of p.segments ++ l) (named_segments ps) ∙ sym (map-append name_of p.segments (segments_of ps))
 
 shape_is : (e : EvidenceParts) → IsEvidence e → IsEvidence (shape_of e)
 shape_is e is = record {

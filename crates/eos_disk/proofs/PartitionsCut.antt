@@ -19,14 +19,13 @@ use Rattle.eos_disk.specs.Paths.{manifest_path, path_of_end}
 use Rattle.eos_disk.specs.Shapes.{segment_of, by_base}
 use Rattle.eos_disk.specs.Stopped.{IsStopped, AreUnlisted, AreListedTo, IsShapeTo}
 use Rattle.eos_disk.specs.steps.Listing.{AreNamed, IsCut, grown, partitions_with}
-use Rattle.eos_disk.proofs.PartitionsGrown.{AreOthers, AreOfNone, partition_of, grown_skips, others_append, after_others, later_others, head_is, none_more, none_at_first}
-use Rattle.eos_disk.proofs.ReadWhole.{as_many}
+use Rattle.eos_disk.proofs.PartitionsGrown.{AreOfNone, partition_of, grown_skips, others_append, after_others, later_others, head_is, none_more, none_at_first}
 
-pub all_front : (P : End → Type 0) (xs : List End) (y : End) (ys : List End) → AllByRecursion P (xs ++ y ∷ ys) → AllByRecursion P xs
+all_front : (P : End → Type 0) (xs : List End) (y : End) (ys : List End) → AllByRecursion P (xs ++ y ∷ ys) → AllByRecursion P xs
 all_front P [] y ys all = tt
 all_front P (x ∷ xs) y ys all = (all.0, all_front P xs y ys all.1)
 
-pub middle : (P : End → Type 0) (xs : List End) (y : End) (ys : List End) → AllByRecursion P (xs ++ y ∷ ys) → P y
+middle : (P : End → Type 0) (xs : List End) (y : End) (ys : List End) → AllByRecursion P (xs ++ y ∷ ys) → P y
 middle P [] y ys all = all.0
 middle P (x ∷ xs) y ys all = middle P xs y ys all.1
 
@@ -67,13 +66,24 @@ listed_after holds folder many why before (g ∷ gs) e back early forms taken up
     subst (λ (p : Partition). AreListedTo holds folder many why (p ∷ partitions_with all (gs ++ e ∷ back)) (forms ++ map (λ f. f.form) taken)) (sym head)
     (inl (are.0, are.2 ++ map (λ f. f.form) taken, are.3, refl, of_forms, tail))
 
--- as many segments as forms
-pub cut_many : (holds : List ℕ → Entry) (folder : List ℕ) (ends : List End) (names : List Segment) (forms : List Form) (why : FolderFault) → IsCut holds folder ends names forms why → length names ≡ length forms
+-- ---- as many segments as forms
+
+as_many : (holds : List ℕ → Entry) (folder : List ℕ) (es : List End) (names : List Segment) (forms : List Form) → AreNamed holds folder es names forms → length names ≡ length forms
+as_many holds folder [] names forms are = ap length are.0 ∙ sym (ap length are.1)
+as_many holds folder (e ∷ es) names forms are =
+    let later = as_many holds folder es are.1 are.2 are.6 in
+    let left = ap length are.4 ∙ (length-append (map (segment_of e) are.0) are.1) in
+    let right = ap length are.5 ∙ (length-append (map (λ f. f.form) are.0) are.2) in
+    omega (arith, left, right, later, length-map are.0 (segment_of e), length-map are.0 (λ f. f.form))
+
+cut_many : (holds : List ℕ → Entry) (folder : List ℕ) (ends : List End) (names : List Segment) (forms : List Form) (why : FolderFault) → IsCut holds folder ends names forms why → length names ≡ length forms
 cut_many holds folder ends names forms why c =
     let early = as_many holds folder c.front c.early c.early_forms c.before in
     let left = ap length c.named ∙ length-append c.early (map (segment_of c.end) c.taken) in
     let right = ap length c.formed ∙ length-append c.early_forms (map (λ f. f.form) c.taken) in
     omega (arith, left, right, early, length-map c.taken (segment_of c.end), length-map c.taken (λ f. f.form))
+
+-- ---- the whole
 
 listed_to : (holds : List ℕ → Entry) (folder : List ℕ) (ends : List End) (names : List Segment) (forms : List Form) (why : FolderFault) → IsStrictlySortedBy end_cmp ends
     → IsCut holds folder ends names forms why → AreListedTo holds folder (length forms) why (partitions_with names ends) forms

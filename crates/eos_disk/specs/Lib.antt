@@ -4,7 +4,6 @@ pub mod Memory
 pub mod Putting
 pub mod steps
 pub mod Causes
-pub mod FirstUnread
 pub mod Names
 pub mod Paths
 pub mod Reading

@@ -1,4 +1,4 @@
--- The evidence that is read whole from a folder of logs: its shape stands there, and each segment has the bytes of its log.
+-- The evidence that a folder of logs gives whoever reads all of it: its shape stands there, and each segment has the bytes of its log.
 use Rattle.std.specs.Prelude.{◌≡◌, ℕ, List, [], map}
 use Rattle.std.specs.List.{AllByRecursion}
 use Rattle.eos_disk.specs.Entries.{Entry, HasBytes}

@@ -138,21 +138,6 @@ pub fn open_segment<D: Disk>(
     open_file(alloc, disk, path)
 }
 
-/// Opens the log, in the folder of a partition, of the segment whose first offset is this.
-pub fn open_log<D: Disk>(
-    alloc: Global,
-    disk: &D,
-    partition: &str,
-    base: i64,
-) -> Result<NamedFile<D::File>, FolderFault>
-    ensures ok { IfOk result (λ named. Leaves (D.holds disk.now (file_path partition.now base Log)) (D.File.remaining named.file)) }
-    ensures err { IfErr result (RefusesFile (file_path partition.now base Log)) }
-    ensures so { IfErr result (MayRefuse (D.holds disk.now (file_path partition.now base Log))) }
-{
-    let path = file_path(alloc, partition, base, Form::Log)?;
-    open_file(alloc, disk, path)
-}
-
 /// The bytes of a partition's segment, at most as many as a segment may have.
 pub fn read_segment_file<D: Disk>(
     alloc: Global,

@@ -1,36 +1,27 @@
 //! Reading a folder of evidence: its manifest, and the segments of the partitions that the manifest names.
 
-ghost use Rattle.std.specs.Prelude.{◌≡◌, ◌⊎◌, ℕ, List, map, Ok, Err, IfOk, IfErr, OnOk, string_bytes};
+ghost use Rattle.std.specs.Prelude.{◌≡◌, ℕ, List, map, Ok, Err, IfOk, IfErr, OnOk, string_bytes};
 ghost use Rattle.eos_disk.specs.Entries.{HasBytes};
 ghost use Rattle.eos_evidence.specs.Evidence.{IsEvidence, with_segment};
 ghost use Rattle.eos_evidence.specs.Manifest.{spec_said_by};
-ghost use Rattle.eos_disk.specs.Paths.{manifest_path, segment_path};
-ghost use Rattle.eos_disk.specs.FirstUnread.{IsFirstOfReading};
-ghost use Rattle.eos_disk.specs.Reading.{IsReadWhole, name_of};
+ghost use Rattle.eos_disk.specs.Paths.{manifest_path};
 ghost use Rattle.eos_disk.specs.Refusals.{RefusesManifest};
 ghost use Rattle.eos_disk.specs.Shapes.{IsShapeAt};
 ghost use Rattle.eos_disk.specs.Stopped.{IsShapeTo};
-ghost use Rattle.eos_disk.specs.steps.Filling.{IsFileRead, IsLogRefused, AreFilledTo, IsFilledTo, or_refused};
-ghost use Rattle.eos_disk.specs.steps.Listing.{AreNamed, AreLogsNamed, AreLogsCut, IsCut, partitions_with};
+ghost use Rattle.eos_disk.specs.steps.Listing.{AreNamed, IsCut, partitions_with};
 ghost use Rattle.eos_disk.specs.declared.folder.FolderFault.{FolderFault as AFault};
 ghost use Rattle.eos_disk.specs.declared.folder.FolderFault.TheVariants.{OutOfMemory};
-ghost use Rattle.eos_disk.specs.declared.names.Form.TheVariants.{Log};
 
 use crate::Disk;
 use crate::cause::Cause;
-use crate::files::{open_segment, read_file};
+use crate::files::read_file;
 use crate::listing::Segments;
 use crate::names::Form;
 use crate::paths::manifest_path;
-use crate::refusal::{NO_RECORDS, refused_fold};
 use crate::watch::Watch;
-use bytes::Bytes;
-use eos_base::Workers;
 use eos_evidence::{Evidence, EvidenceBuilder, Segment, Spec, SpecFault, parse_spec};
 use eos_manifest::{SpecCause, explain_spec};
 use std::alloc::{AllocError, AllocFailed, Global};
-use std::thread;
-use std::thread::Threads;
 
 /// Why a folder is no evidence. Of several reasons it is the first: those of the manifest, then those of the
 /// partitions in order, each with its segments by base. Want of memory may come before any of them.
@@ -82,15 +73,6 @@ struct Listing {
     segments: Segments,
 }
 
-/// A file that is named as a segment of a partition.
-#[derive(Drop)]
-struct SegmentFile {
-    /// The segment without its bytes.
-    name: Segment,
-    /// What was read of it. Before that it counts as one for which there was no memory.
-    bytes: Result<Bytes, FolderFault>,
-}
-
 /// Reads which evidence a folder has: its manifest, and for each partition of it the names of the segments in the folder
 /// `TOPIC-N`, each with the form in which it stands there. A partition without a folder has no segments. No segment is read.
 pub fn read_shape<D: Disk, W: Watch>(
@@ -129,83 +111,6 @@ fn shape_of<D: Disk, W: Watch>(
     let Segments { names, forms } = segments;
     let evidence = evidence_of(alloc, spec, names)?;
     Ok((evidence, forms))
-}
-
-/// How a folder is read.
-#[derive(Clone, Copy)]
-pub struct Reading<'a, W> {
-    /// By how many threads at most.
-    pub workers: Workers,
-    pub watch: &'a W,
-}
-
-/// Reads the evidence of a folder: its shape, and the bytes of each segment, by at most as many threads as there are workers. A
-/// folder that has a fold is refused before any segment is read.
-#[tactic(auto, using(crate::proofs::FirstUnread::memory))]
-pub fn read_folder<D: Disk, W: Watch>(
-    alloc: Global,
-    threads: &(impl Threads + Sync),
-    disk: &D,
-    folder: &str,
-    asked: Reading<'_, W>,
-) -> Result<Evidence, FolderFault>
-    ensures whole { IfOk result (IsReadWhole (D.holds disk.now) folder.now) }
-    ensures first { IfErr result (IsFirstOfReading (D.holds disk.now) folder.now) }
-{
-    let Reading { workers, watch } = asked;
-    let (mut listed, mut read) = (Ok(()), Ok(()));
-    let (spec, mut files) = list_logs(alloc, disk, folder, watch, &mut listed)?;
-    thread::for_each_mut(
-        threads,
-        files.as_mut_slice(),
-        workers.get() as usize,
-        &|_, file: &mut SegmentFile|
-            ensures { IsFileRead (D.holds disk.entry.now) folder.entry.now file.old file.new }
-        { file.read(alloc, disk, folder, watch) },
-    );
-    let evidence = evidence_of_files(alloc, spec, files, &mut read)?;
-    first_refusal(evidence, read, listed)
-}
-
-/// What refuses a segment comes before what refused to list more of them.
-fn first_refusal(
-    evidence: Evidence,
-    read: Result<(), FolderFault>,
-    listed: Result<(), FolderFault>,
-) -> Result<Evidence, FolderFault>
-    ensures ok { IfOk result (λ e. (e ≡ evidence) × (read ≡ Ok tt) × (listed ≡ Ok tt)) }
-    ensures err { IfErr result (λ why. (read ≡ Err why) ⊎ ((read ≡ Ok tt) × (listed ≡ Err why))) }
-{
-    read?;
-    listed?;
-    Ok(evidence)
-}
-
-/// What a folder lists that has no fold: its manifest, and the files of its segments, of which none is read yet.
-#[tactic(auto, using(crate::proofs::FirstUnread::memory, crate::proofs::FirstUnread::of_manifest))]
-fn list_logs<D: Disk, W: Watch>(
-    alloc: Global,
-    disk: &D,
-    folder: &str,
-    watch: &W,
-    listed: &mut Result<(), FolderFault>,
-) -> Result<(Spec, Vec<SegmentFile>), FolderFault>
-    ensures says { IfOk result (λ logs. (text : List ℕ) × HasBytes (D.holds disk.now (manifest_path folder.now)) text × (spec_said_by text ≡ Ok logs.0)) }
-    ensures named { IfOk result (λ logs. listed.new ≡ Ok tt → AreLogsNamed (D.holds disk.now) folder.now logs.0.ends (map (λ f. f.name) logs.1.items)) }
-    ensures cut { IfOk result (λ logs. (why : AFault) → listed.new ≡ Err why → AreLogsCut (D.holds disk.now) folder.now logs.0.ends (map (λ f. f.name) logs.1.items) why) }
-    ensures refused { IfErr result (IsFirstOfReading (D.holds disk.now) folder.now) }
-{
-    let Listing { spec, segments } = list_folder(alloc, disk, folder, watch, listed)?;
-    match segments.first_fold() {
-        Some(name) => {
-            let fault = refused_fold(alloc, folder, name, NO_RECORDS);
-            let _shape = evidence_of(alloc, spec, segments.names)?;
-            return Err(fault);
-        }
-        None => {}
-    }
-    let files = unread_files(alloc, segments.names)?;
-    Ok((spec, files))
 }
 
 /// Lists a folder, and why these aren't all of its segments, if that was refused.
@@ -286,108 +191,4 @@ fn add(builder: &mut EvidenceBuilder, segment: Segment) -> Result<(), AllocError
         Ok(()) => Ok(()),
         Err(_) => Err(AllocError),
     }
-}
-
-// ---- what is in them
-
-/// The files of these names, of which none is read yet.
-fn unread_files(alloc: Global, names: Vec<Segment>) -> Result<Vec<SegmentFile>, AllocError>
-    ensures { IfOk result (λ files. map (λ f. f.name) files.items ≡ names.items) }
-{
-    let mut files = Vec::new(alloc);
-    for name in names {
-        files.push(SegmentFile {
-            name,
-            bytes: Err(FolderFault::OutOfMemory),
-        })?;
-    }
-    Ok(files)
-}
-
-impl SegmentFile {
-    /// Reads the file, and says so.
-    fn read<D: Disk, W: Watch>(&mut self, alloc: Global, disk: &D, folder: &str, watch: &W)
-        ensures { IsFileRead (D.holds disk.now) folder.now self.old self.new }
-    {
-        self.bytes = bytes_of(alloc, disk, folder, &self.name);
-        if let Ok(bytes) = &self.bytes {
-            watch.read(bytes.len() as u64);
-        }
-    }
-
-    /// The segment with what was read of it. It has no bytes where that was refused: this is told, where nothing was refused before it.
-    fn into_segment(self, read: &mut Result<(), FolderFault>) -> Segment
-        ensures name { name_of result ≡ name_of self.name }
-        ensures ok { (bytes : List ℕ) → self.bytes ≡ Ok bytes → (result.bytes ≡ bytes) × (read.new ≡ read.old) }
-        ensures err { (why : AFault) → self.bytes ≡ Err why → read.new ≡ or_refused read.old why }
-    {
-        let SegmentFile { name, bytes } = self;
-        let bytes = match bytes {
-            Ok(bytes) => bytes,
-            Err(fault) => {
-                refuse(read, fault);
-                Bytes::new()
-            }
-        };
-        Segment {
-            topic: name.topic,
-            partition: name.partition,
-            base: name.base,
-            bytes,
-        }
-    }
-}
-
-/// What refuses a segment comes before what refuses a later one.
-#[tactic(auto, using(crate::proofs::FilesFilled::or_first, crate::proofs::FilesFilled::or_before))]
-fn refuse(read: &mut Result<(), FolderFault>, fault: FolderFault)
-    ensures { read.new ≡ or_refused read.old fault }
-{
-    if read.is_ok() {
-        *read = Err(fault);
-    }
-}
-
-#[tactic(auto, using(crate::proofs::FirstUnread::log_unopened, crate::proofs::FirstUnread::log_unread))]
-fn bytes_of<D: Disk>(
-    alloc: Global,
-    disk: &D,
-    folder: &str,
-    name: &Segment,
-) -> Result<Bytes, FolderFault>
-    ensures ok { IfOk result (HasBytes (D.holds disk.now (segment_path folder.now name.now Log))) }
-    ensures err { IfErr result (IsLogRefused (D.holds disk.now) folder.now name.now) }
-{
-    open_segment(alloc, disk, folder, name, Form::Log)?.read_whole(alloc)
-}
-
-/// The evidence of the files in order. A segment that wasn't read has no bytes in it, and the first refusal of one is told.
-fn evidence_of_files(
-    alloc: Global,
-    spec: Spec,
-    files: Vec<SegmentFile>,
-    read: &mut Result<(), FolderFault>,
-) -> Result<Evidence, AllocError>
-    requires { read.old ≡ Ok tt }
-    ensures filled { IfOk result (IsFilledTo spec read.new files.items) }
-    ensures evidence { IfOk result IsEvidence }
-{
-    let segments = segments_of_files(alloc, files, read)?;
-    evidence_of(alloc, spec, segments)
-}
-
-#[tactic(auto, using(crate::proofs::FilesFilled::none_yet))]
-fn segments_of_files(
-    alloc: Global,
-    files: Vec<SegmentFile>,
-    read: &mut Result<(), FolderFault>,
-) -> Result<Vec<Segment>, AllocError>
-    requires { read.old ≡ Ok tt }
-    ensures { IfOk result (λ segments. AreFilledTo read.new files.items segments.items) }
-{
-    let mut segments = Vec::new(alloc);
-    for file in files {
-        segments.push(file.into_segment(read))?;
-    }
-    Ok(segments)
 }

@@ -2,8 +2,6 @@
 
 ghost use Rattle.std.specs.Prelude.{◌≡◌, ◌++◌, [], length, map, take, None, IfOk, IfErr, IfSome, OnOk, OnErr, IsPermutation, IsSorted, string_bytes};
 ghost use Rattle.eos_disk.specs.Paths.{file_path, path_of_end};
-ghost use Rattle.eos_disk.specs.FirstUnread.{IsFirstListedFold};
-ghost use Rattle.eos_disk.specs.Reading.{AreAllLogs};
 ghost use Rattle.eos_disk.specs.Refusals.{RefusesFile, RefusesFold, IsUnread};
 ghost use Rattle.eos_disk.specs.Shapes.{segment_of, by_base, files_said, log_bases, AreByBase, IsFound, AreLogsAt};
 ghost use Rattle.eos_disk.specs.Stopped.{IsNextRefused, IsTwice, IsFirstFold, RefusesLogs};
@@ -108,20 +106,6 @@ impl Segments {
         self.names.push(name)?;
         self.forms.push_reserved(file.form);
         Ok(())
-    }
-
-    /// The first segment that stands there as a fold.
-    #[tactic(auto, using(crate::proofs::ReadWhole::logs_next, crate::proofs::ReadWhole::logs_all, crate::proofs::FirstUnread::fold_here))]
-    pub(crate) fn first_fold(&self) -> Option<&Segment>
-        ensures fold { IfSome result (λ name. IsFirstListedFold self.now.names.items self.now.forms.items name.now) }
-        ensures none { result ≡ None → length self.now.names.items ≡ length self.now.forms.items → AreAllLogs self.now.forms.items }
-    {
-        for i in 0..self.names.len().min(self.forms.len()) {
-            if let Form::Fold = self.forms[i] {
-                return Some(&self.names[i]);
-            }
-        }
-        None
     }
 }
 

@@ -341,7 +341,7 @@ fn tell<W: Write>(alloc: Global, evidence: &Evidence, writer: &mut W) -> Result<
 /// wanted, and prints how many partitions the evidence has. A schedule is read from its file, or from the input where that is named `-`.
 ///
 /// These files are begun before the schedule is read, and the folder is made after that. Where nothing stood below the folder,
-/// and the files don't lie there, just the evidence's files do then, and from a disk that is known `eos_disk::read_folder` reads it back.
+/// and the files don't lie there, just the evidence's files do then, and from a disk that is known it is read back.
 ///
 /// # Errors
 /// Where the line can't be printed, or no memory is left for it, the folder, the history and the labels stay, whole. Else what was written was taken away,

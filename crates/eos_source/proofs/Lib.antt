@@ -12,6 +12,7 @@ pub mod FoldBounds
 pub mod Saying
 pub mod SameShape
 pub mod OneEvidence
+pub mod StandsWhole
 pub mod Refused
 pub mod FirstRefusals
 pub mod RefusalsNamed

@@ -11,6 +11,7 @@ ghost use Rattle.eos_evidence.specs.declared.fault.SpecFault.{SpecFault};
 ghost use Rattle.eos_source.specs.FirstRefusals.{IsFirstOfFolder};
 ghost use Rattle.eos_source.specs.Named.{IsBelow, Names};
 ghost use Rattle.eos_evidence.specs.Evidence.{EvidenceParts, segments_of};
+ghost use Rattle.eos_disk.specs.Reading.{IsReadWhole};
 ghost use Rattle.eos_disk.specs.Shapes.{AreKnown};
 ghost use Rattle.eos_disk.specs.declared.names.Form.{Form};
 ghost use Rattle.eos_source.specs.FolderLogs.{is_log_at};
@@ -28,6 +29,11 @@ pub fn kept()
 pub fn one_evidence()
     ensures { (holds : List ℕ → Entry) (folder : List ℕ) (evidence other : EvidenceParts) → AreKnown holds folder → (at : StandsAt holds folder evidence)
         → ((piece : ℕ) → piece < length (segments_of at.shape.partitions) → is_log_at at.forms piece ≡ true) → StandsAt holds folder other → evidence ≡ other }
+{}
+
+/// The evidence that a known folder of logs gives whoever reads all of it stands there: what `simulate` left is what `check` answers for.
+pub fn read_whole()
+    ensures { (holds : List ℕ → Entry) (folder : List ℕ) (evidence : EvidenceParts) → AreKnown holds folder → IsReadWhole holds folder evidence → StandsAt holds folder evidence }
 {}
 
 /// The first refusal of a folder is that of its manifest for a fault only where just this is the fault of what stands there.

@@ -10,7 +10,6 @@ use Rattle.eos_disk.specs.declared.folder.FolderFault.{FolderFault}
 use Rattle.eos_disk.specs.declared.names.FileName.{FileName}
 use Rattle.eos_disk.specs.declared.names.Form.{Form}
 use Rattle.eos_disk.specs.Paths.{path_of_end}
-use Rattle.eos_disk.specs.Reading.{AreAllLogs}
 use Rattle.eos_disk.specs.Shapes.{IsListed, segment_of, by_base}
 use Rattle.eos_disk.specs.Stopped.{IsNextRefused, IsStopped}
 
@@ -31,10 +30,6 @@ AreNamed holds folder [] names forms = (names ≡ []) × (forms ≡ [])
 AreNamed holds folder (e ∷ es) names forms =
     (files : List FileName) × (later : List Segment) × (rest : List Form) × IsListed holds folder e files × (names ≡ map (segment_of e) files ++ later)
     × (forms ≡ map (λ f. f.form) files ++ rest) × AreNamed holds folder es later rest
-
--- these are all that the folder lists, and each stands there as its log
-abbrev pub AreLogsNamed : (List ℕ → Entry) → List ℕ → List End → List Segment → Type 0
-AreLogsNamed holds folder ends names = (forms : List Form) × AreNamed holds folder ends names forms × AreAllLogs forms
 
 -- of these files of a partition, whose folder has this path, a front was taken, and then this refused the next one
 pub record IsTakenTo (e : End) (path : List ℕ) (files : List FileName) (names more : List Segment) (forms further : List Form) (why : FolderFault) : Type 0 where
@@ -60,10 +55,6 @@ pub record IsCut (holds : List ℕ → Entry) (folder : List ℕ) (ends : List E
   pub stopped : IsStopped holds (path_of_end folder end) (length names) taken why
   pub named : names ≡ early ++ map (segment_of end) taken
   pub formed : forms ≡ early_forms ++ map (λ f. f.form) taken
-
--- these are the segments before the one at which this refused the listing, and each stands there as its log
-abbrev pub AreLogsCut : (List ℕ → Entry) → List ℕ → List End → List Segment → FolderFault → Type 0
-AreLogsCut holds folder ends names why = (forms : List Form) × IsCut holds folder ends names forms why × AreAllLogs forms
 
 -- a partition with these segments more, one after the other
 abbrev pub grown : Partition → List Segment → Partition
