@@ -20,7 +20,7 @@ LIST = "tests/allocating.txt"
 # Types of results that can be want of memory; of a fault of this name by its variant.
 OUT = {"AllocError", "AllocFailed"}
 # What says so without a name: a segment or runs that come back.
-GIVEN_BACK = {"Segment", "(Named, Named)", "(Tied<E>, Tied<E>)", "(Summary, Summary)", "(BatchSummary, BatchSummary)", "(Run, Run)", "(Kept<L>, Kept<L>)"}
+GIVEN_BACK = {"Segment", "(Tied<E>, Tied<E>)", "(Run, Run)", "(Kept<L>, Kept<L>)"}
 # What holds a reply.
 REPLIES = {"Called"}
 FUNCTION = re.compile(r"^( *)pub fn (\w+)", re.M)

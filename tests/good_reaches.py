@@ -49,7 +49,6 @@ OF_THE_CHECKER = (
     ("eos_fold.specs.Sums", None),
     ("eos_fold.specs.Fronts", "IsFront"),
     ("eos_fold.specs.declared.stop.Stop", None),
-    ("eos_fold.specs.declared.summary.Summary", None),
     ("eos_table.specs.LogFaults", None),
     ("eos_table.specs.MatchFaults", None),
     ("eos_commits.specs.Faults", None),

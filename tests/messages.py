@@ -320,7 +320,7 @@ def several(room):
 
 # ---- progress, and what a terminal gets
 
-LINE = re.compile(r"eoscheck: (read|folded) \d+ of \d+ segments, \d+ bytes")
+LINE = re.compile(r"eoscheck: read \d+ of \d+ segments, \d+ bytes")
 TIMES = re.compile(r"eoscheck: seconds read=\d+\.\d{3} folded=\d+\.\d{3} judged=\d+\.\d{3}")
 
 

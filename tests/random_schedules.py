@@ -87,7 +87,7 @@ def line(seed):
     events = [event(words) for _ in range(40)]
     events += ["start:0", "start:1", "start:2", "coordinator", f"below:{MESSAGES}"]
     told = " ".join("-" + word for word in events)
-    return f"cluster {CHAIN if seed % 2 else SIZES} {told} deliver:{MESSAGES} at-rest ends verdict:1"
+    return f"cluster {CHAIN if seed % 2 else SIZES} {told} deliver:{MESSAGES} at-rest ends verdict"
 
 
 def judged(answers, first, count):

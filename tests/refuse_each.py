@@ -2,8 +2,8 @@
 Any other answer is a failure. Of a table these are the rows whose calls tests/allocating.txt names, since what else allocates is
 refused to one of them or to a run.
 
-The builder of evidence, the simulated cluster, the pool's core and lists of what is kept of records go on after a refusal: tests/rows makes such a call again,
-answers the row as it says, and marks that. Of each call of GOES_ON some row of the table has to be marked so.
+The builder of evidence, the simulated cluster and lists of what is kept of records go on after a refusal: tests/rows makes such a call
+again, answers the row as it says, and marks that. Of each call of GOES_ON some row of the table has to be marked so.
 
 tests/unproved.py asks them, of the program whose heap is tests/rows/heap.c. Rows with more than MOST allocations are left out, of
 which refusals.txt has none.
@@ -22,7 +22,7 @@ MOST = 300
 # That table, of small rows, and how many allocations its rows may have.
 SMALL, SMALL_MOST = "refusals.txt", 3000
 # The calls after whose refusals the program goes on.
-GOES_ON = {"add_segments", "cluster", "keep_texts", "pool"}
+GOES_ON = {"add_segments", "cluster", "keep_texts"}
 # Where the writer is refused memory of its own, that is a failed write.
 FAILED_WRITES = {"write_verdict": 'Err(Write) ""'}
 # What is said of a row: how many allocations there are, a sign for each, and texts.

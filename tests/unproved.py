@@ -163,11 +163,10 @@ def main():
     import round_trips
     import tables
     import threads
-    import work_once
 
     if words:
         return tell([together("tables", list(map(tables.asked, words))), refuse_each.asked(words)])
-    scripts = tables, refuse_each, work_once, threads, round_trips, join_orders, chunks, quick_walk, random_schedules
+    scripts = tables, refuse_each, threads, round_trips, join_orders, chunks, quick_walk, random_schedules
     return tell(it for asks in scripts for it in asks.all_asked())
 
 

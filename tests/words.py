@@ -47,19 +47,14 @@ TABLE = {
         eos_words: FOLD FOLDS FOLD_USAGE FOLD_WRITES Fold fold_arguments read_fold
         """,
     "run": """
-        eos_board: into_runs
-        eos_check: is_run_of made_run next_run own_run run_of runs_of
-        eos_explaining: own_run run_of
         eos_fold_file: run run_front run_of
-        eos_kept: KeptRun Run kept_run run
+        eos_kept: KeptRun Run kept_run run run_held
         eos_source: next_run
         """,
     "part": """
-        eos_check: part_of parts parts_from
         eos_commits: take_part
         eos_explaining: parts_of
-        eos_fold: Part part
-        eos_kept: KeptPart Part log_part part
+        eos_kept: Part part
         eos_lineage: parts take_part
         eos_notes: count_part count_part_if
         eos_sought: take_part walk_part
@@ -70,7 +65,6 @@ TABLE = {
 ELSEWHERE = {"into_parts", "of_parts"}
 # Public calls that had their names before the words had one meaning: what runs is a command, a script, a list of events.
 GIVEN = {
-    "eos_board": {"run"},
     "eos_drive": {"run_kept", "run_script", "run_tail", "run_tail_kept", "run_threads", "run_with"},
     "eos_segment": {"RunFault"},
 }

@@ -1,17 +1,3 @@
 pub mod Gathering
 pub mod SeatSums
 pub mod TicketSteps
-pub mod RunsJoined
-pub mod TreeNodes
-pub mod RunsStanding
-pub mod RunsKept
-pub mod SeamsKept
-pub mod PairsTaken
-pub mod TiedRuns
-pub mod PiecesFit
-pub mod PieceSums
-pub mod PiecesMoved
-pub mod EventsMoved
-pub mod PoolKept
-pub mod CoursesMore
-pub mod StepsTaken

@@ -7,10 +7,6 @@ pub mod TransactionLogInOrder
 pub mod FirstFault
 pub mod GoodLaw
 pub mod VerdictsMade
-pub mod RunsMade
-pub mod PiecesTied
-pub mod PiecesFit
-pub mod PiecesDrawn
 pub mod SettledShards
 pub mod NamedFaults
 pub mod PhaseAnswers
@@ -29,3 +25,4 @@ pub mod KeptVisible
 pub mod KeptLineage
 pub mod KeptEpochs
 pub mod KeptAnswers
+pub mod HeldLogs

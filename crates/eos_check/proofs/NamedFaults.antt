@@ -1,5 +1,5 @@
 -- The least faults of the partitions, each named by itself, and the least of all.
-use Rattle.std.proofs.Common.{◌≡◌, ℕ, ◌+◌, ◌<◌, ℤ, List, [], ◌∷◌, ◌++◌, length, take, get_or, Option, Some, None, sym, subst, inl, inr}
+use Rattle.std.proofs.Common.{ℕ, ℤ, List, [], ◌∷◌, ◌++◌, Option, Some, None, sym, subst, inl, inr}
 use Rattle.eos_base.specs.Least.{IsLeastOrNone}
 use Rattle.eos_evidence.specs.declared.partition.Partition.{Partition}
 use Rattle.eos_evidence.specs.declared.segment.Segment.{Segment}
@@ -11,7 +11,6 @@ use Rattle.eos_commits.specs.EvidenceLogs.{IsLogOf, AreLogsOf}
 use Rattle.eos_commits.proofs.LogsInOrder.{sorted}
 use Rattle.eos_check.specs.Verdicts.{StandsInPartitions, partition_cmp}
 use Rattle.eos_check.proofs.FirstFault.{least_of_first}
-use Rattle.eos_check.proofs.RunsMade.{take_next}
 use Rattle.eos_kept.specs.Faults.{AreFaultsIn, first_of}
 
 -- a log's fault is its partition's
@@ -22,27 +21,14 @@ fault_of p l of f h =
     let end = subst (λ (z : ℤ). IsFaultIn l.topic l.number z p.segments f) (sym of.log.until) number in
     subst (λ (ss : List Segment). IsFaultIn l.topic l.number l.end ss f) (sym of.log.of_segments) end
 
--- and the other way
-fault_in : (p : Partition) (l : PartLog) → IsLogOf p l → (f : Option PartitionFault) → IsFaultOf l f → IsFaultIn p.end.topic p.end.partition p.end.end p.segments f
-fault_in p l of f h =
-    let topic = subst (λ (t : List ℕ). IsFaultIn t l.number l.end l.segments f) of.log.of_topic h in
-    let number = subst (λ (n : ℤ). IsFaultIn p.end.topic n l.end l.segments f) of.log.of_number topic in
-    let end = subst (λ (z : ℤ). IsFaultIn p.end.topic p.end.partition z l.segments f) of.log.until number in
-    subst (λ (ss : List Segment). IsFaultIn p.end.topic p.end.partition p.end.end ss f) of.log.of_segments end
-
 -- ---- one partition more
 
-faults_push : (ps : List Partition) (fs : List (Option PartitionFault)) (p : Partition) (f : Option PartitionFault) → AreFaultsIn ps fs
+pub faults_push : (ps : List Partition) (fs : List (Option PartitionFault)) (p : Partition) (f : Option PartitionFault) → AreFaultsIn ps fs
     → IsFaultIn p.end.topic p.end.partition p.end.end p.segments f → AreFaultsIn (ps ++ p ∷ []) (fs ++ f ∷ [])
 faults_push [] [] p f h k = (k, tt)
 faults_push [] (g ∷ fs) p f h k = absurd h
 faults_push (q ∷ ps) [] p f h k = absurd h
 faults_push (q ∷ ps) (g ∷ fs) p f h k = (h.0, faults_push ps fs p f h.1 k)
-
-pub faults_next : (ps : List Partition) (i : ℕ) (fs : List (Option PartitionFault)) (p : Partition) (l : PartLog) (f : Option PartitionFault) → i < length ps → p ≡ get_or ps i p
-    → AreFaultsIn (take i ps) fs → IsLogOf p l → IsFaultOf l f → AreFaultsIn (take (i + 1) ps) (fs ++ f ∷ [])
-faults_next ps i fs p l f lt e h of k =
-    subst (λ (qs : List Partition). AreFaultsIn qs (fs ++ f ∷ [])) (sym (take_next ps i p lt e)) (faults_push (take i ps) fs p f h (fault_in p l of f k))
 
 -- ---- the first of all
 

@@ -2,7 +2,6 @@ pub mod PartitionRules
 pub mod Good
 pub mod VisibleRecords
 pub mod Verdicts
-pub mod WholeLogs
 pub mod Judged
 pub mod steps
 pub mod KeptVerdicts

@@ -1,3 +1,3 @@
 pub mod Phases
 pub mod Shards
-pub mod Runs
+pub mod HeldLogs

@@ -283,7 +283,7 @@ pub fn judge_with<R: Threads + Sync, T: Send + Drop, W: FnOnce() -> T + Send>(
     judge_sound(alloc, rt, sound, workers, work)
 }
 
-/// The verdict over these logs, whole or kept, of an evidence of this spec: the first of the faults that stand beside them, or
+/// The verdict over these logs of an evidence of this spec: the first of the faults that stand beside them, or
 /// else what the other phases answer over the logs. At most so many threads work at a time: they match the transactions and look at
 /// the lineage, the latter while one of them reads the transaction log, where that is long.
 ///

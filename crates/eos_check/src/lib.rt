@@ -8,14 +8,9 @@ mod judging;
 pub mod kept_laws;
 pub mod laws;
 mod one_thread;
-mod parts;
 mod phases;
-mod pool;
 mod shards;
-mod tied_evidence;
-mod workers;
 
 pub use eos_verdict::{Counts, Fault, Verdict};
 pub use judging::{Judging, judge, judge_with};
-pub use one_thread::{check_one, verdict_of};
-pub use workers::{check, logs_of};
+pub use one_thread::check_one;

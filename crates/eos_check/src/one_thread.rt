@@ -1,51 +1,41 @@
-//! The check of an evidence by one thread.
+//! The check of an evidence that is held in memory, by one thread.
 
-ghost use Rattle.std.specs.Prelude.{◌≡◌, IfOk, Some};
+ghost use Rattle.std.specs.Prelude.{◌≡◌, IfOk};
 ghost use Rattle.eos_check.specs.Verdicts.{IsVerdict};
-ghost use Rattle.eos_check.specs.WholeLogs.{AreWholeLogs};
-ghost use Rattle.eos_evidence.specs.Evidence.{segments_of};
+ghost use Rattle.eos_check.specs.steps.HeldLogs.{AreKept};
 
 use crate::judging::judge;
-use crate::parts::parts_from;
-use crate::tied_evidence::TiedEvidence;
 use eos_base::Workers;
-use eos_board::Pieces;
+use eos_commits::source_topics;
 use eos_evidence::Evidence;
-use eos_kept::Logs;
+use eos_kept::{Asked, Logs, told_in};
+use eos_reading::Wants;
 use eos_verdict::Verdict;
 use std::alloc::{AllocError, Global};
-use std::marker::{Brand, PhantomData};
 use std::thread::Threads;
 
-/// The verdict of the evidence whose logs these are, by at most so many threads, with the transactions matched in as many
-/// shards: `check_one` of it.
-///
-/// # Errors
-/// Only want of memory.
-pub fn verdict_of<R: Threads + Sync>(
-    alloc: Global,
-    rt: &R,
-    evidence: &Evidence,
-    logs: &Logs,
-    workers: Workers,
-) -> Result<Verdict, AllocError>
-    requires { AreWholeLogs evidence.now.partitions logs.now }
-    ensures { IfOk result (IsVerdict evidence.now) }
+/// What the evidence's applications want of the logs of its partitions, in order, each with its least fault beside it.
+fn kept_logs(alloc: Global, evidence: &Evidence) -> Result<Logs, AllocError>
+    ensures { IfOk result (λ logs. AreKept evidence.now.spec.apps evidence.now.partitions logs.parts.items logs.faults.items) }
 {
-    let spec = evidence.spec();
-    judge(alloc, rt, spec, logs, workers)
-}
-
-/// The logs of the evidence's partitions, in order, of which no run was made.
-fn logs_alone<E: Pieces>(alloc: Global, evidence: &Evidence) -> Result<Logs, AllocError>
-    requires { E.pieces ≡ Some (segments_of evidence.now.partitions) }
-    ensures { IfOk result (AreWholeLogs evidence.now.partitions) }
-{
-    let evidence = TiedEvidence {
-        evidence,
-        of: PhantomData,
-    };
-    parts_from::<E>(alloc, &evidence, Vec::new(alloc))
+    let apps = evidence.spec().apps().as_slice();
+    let wants = Wants::of(alloc, apps)?;
+    let topics = source_topics(alloc, apps)?;
+    let mut parts = Vec::new(alloc);
+    let mut faults = Vec::new(alloc);
+    let partitions = evidence.partitions();
+    for i in 0..partitions.len() {
+        let partition = &partitions[i];
+        let topic = partition.end.topic.as_slice();
+        let asked = Asked {
+            wanted: wants.of_topic(topic),
+            topics: topics.as_slice(),
+        };
+        let told = told_in(alloc, asked, partition)?;
+        parts.push(told.part)?;
+        faults.push(told.fault)?;
+    }
+    Ok(Logs { parts, faults })
 }
 
 /// The verdict of an evidence: yes with three counts exactly where each log is whole and fenced, no sequence is repeated or
@@ -64,6 +54,6 @@ pub fn check_one<R: Threads + Sync>(
 ) -> Result<Verdict, AllocError>
     ensures { IfOk result (IsVerdict evidence.now) }
 {
-    let logs = logs_alone::<Brand>(alloc, evidence)?;
-    verdict_of(alloc, rt, evidence, &logs, Workers::one())
+    let logs = kept_logs(alloc, evidence)?;
+    judge(alloc, rt, evidence.spec(), &logs, Workers::one())
 }

@@ -42,7 +42,7 @@ impl Timed for Progress<'_> {
     }
 }
 
-/// What a report is made of: a manifest, logs, whole or kept ones, with what is counted of their segments and the entries of their
+/// What a report is made of: a manifest, logs with what is counted of their segments and the entries of their
 /// leader epochs, and the verdict with the faults that are told.
 #[derive(Clone, Copy)]
 pub(crate) struct Told<'a> {

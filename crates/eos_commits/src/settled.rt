@@ -9,10 +9,10 @@ ghost use Rattle.eos_commits.specs.Visible.{is_visible as is_visible_fate};
 ghost use Rattle.eos_commits.specs.steps.Settled.{are_claimed, is_settled as is_settled_part, AreSettled};
 
 use crate::roles::Roles;
-use crate::shown::{is_unclaimed, role_of};
+use crate::shown::role_of;
 use crate::visible::is_visible;
 use eos_base::{Workers, are_all};
-use eos_kept::{KeptBatch, KeptBatches, Look, Part};
+use eos_kept::{KeptBatch, Look, Part};
 use std::alloc::{AllocError, Global};
 use std::thread;
 use std::thread::Threads;
@@ -43,29 +43,13 @@ fn is_batch_claimed(batch: &KeptBatch<'_>) -> bool
     true
 }
 
-/// The same of batches.
-fn are_batches_claimed(mut batches: KeptBatches<'_>) -> bool
-    ensures { result ≡ are_claimed batches.entry }
-{
-    while let Some(batch) = batches.next() {
-        if !is_batch_claimed(&batch) {
-            return false;
-        }
-    }
-    true
-}
-
 /// Whether each visible record of the partition is a claim.
 fn is_claimed(part: &Part) -> bool
     ensures { result ≡ are_claimed part.now.items }
 {
-    let items = part.items();
-    if let Some(batches) = items.batches() {
-        return are_batches_claimed(batches);
-    }
-    let mut records = items.cursor();
-    while let Some(item) = records.next() {
-        if is_visible(item.fate()) && is_unclaimed(item) {
+    let mut batches = part.items().batches();
+    while let Some(batch) = batches.next() {
+        if !is_batch_claimed(&batch) {
             return false;
         }
     }

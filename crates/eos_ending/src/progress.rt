@@ -1,9 +1,7 @@
 //! How far a check is, as standard error is told, and how long its stages took.
 
 use crate::subject::Subject;
-use eos_board::Gate;
 use eos_disk::Watch;
-use eos_fold::Named;
 use std::sync::atomic::{AtomicU64, Ordering};
 use std::time::Instant;
 
@@ -57,7 +55,7 @@ impl<'a> Meter<'a> {
     }
 }
 
-/// How far the check of a folder is. Its segments are read, then each is folded, and then the whole is judged.
+/// How far the check of a folder is. Its segments are read, each of which is folded meanwhile, and then the whole is judged.
 #[derive(Drop)]
 pub struct Progress<'a> {
     meter: &'a Meter<'a>,
@@ -66,8 +64,7 @@ pub struct Progress<'a> {
     begun: u64,
     /// How many segments there are.
     segments: AtomicU64,
-    read: Stage,
-    folded: Stage,
+    read: Reading,
 }
 
 /// How many milliseconds the stages of a check took.
@@ -75,15 +72,15 @@ pub struct Progress<'a> {
 pub struct Stages {
     /// Reading the segments.
     pub read: u64,
-    /// Folding them.
+    /// Folding them: 0, since each is folded while it is read.
     pub folded: u64,
     /// Judging the whole.
     pub judged: u64,
 }
 
-/// A stage of a check.
+/// The reading of the segments.
 #[derive(Drop)]
-struct Stage {
+struct Reading {
     /// How many segments are done.
     done: AtomicU64,
     /// How many bytes those have.
@@ -92,9 +89,9 @@ struct Stage {
     last: AtomicU64,
 }
 
-impl Stage {
-    fn new() -> Stage {
-        Stage {
+impl Reading {
+    fn new() -> Reading {
+        Reading {
             done: AtomicU64::new(0),
             bytes: AtomicU64::new(0),
             last: AtomicU64::new(0),
@@ -117,28 +114,18 @@ impl<'a> Progress<'a> {
             subject,
             begun: meter.now().unwrap_or(0),
             segments: AtomicU64::new(0),
-            read: Stage::new(),
-            folded: Stage::new(),
+            read: Reading::new(),
         }
     }
 
-    /// A segment of so many bytes is done in a stage of this name.
-    fn step(&self, name: &str, stage: &Stage, bytes: u64) {
-        if let Some(now) = self.meter.now() {
-            stage.add(bytes, now);
-            if self.meter.tells && self.meter.takes_turn(now) {
-                self.tell(name, stage);
-            }
-        }
-    }
-
-    fn tell(&self, name: &str, stage: &Stage) {
+    /// Tells how many segments are read.
+    fn tell(&self) {
         let subject = self.subject;
-        let done = stage.done.load(Ordering::SeqCst);
-        let bytes = stage.bytes.load(Ordering::SeqCst);
+        let done = self.read.done.load(Ordering::SeqCst);
+        let bytes = self.read.bytes.load(Ordering::SeqCst);
         let segments = self.segments.load(Ordering::SeqCst);
         let _ = eprint!(self.meter.rt;
-            "{subject}eoscheck: {name} {done} of {segments} segments, {bytes} bytes\n"
+            "{subject}eoscheck: read {done} of {segments} segments, {bytes} bytes\n"
         );
     }
 
@@ -163,12 +150,10 @@ impl<'a> Progress<'a> {
     pub fn stages(&self) -> Stages {
         let now = self.meter.now().unwrap_or(self.begun);
         let read = self.read.last.load(Ordering::SeqCst).max(self.begun);
-        let folded = self.folded.last.load(Ordering::SeqCst).max(read);
-        let judged = now.max(folded);
         Stages {
             read: read - self.begun,
-            folded: folded - read,
-            judged: judged - folded,
+            folded: 0,
+            judged: now.max(read) - read,
         }
     }
 }
@@ -179,20 +164,11 @@ impl Watch for Progress<'_> {
     }
 
     fn read(&self, bytes: u64) {
-        self.step("read", &self.read, bytes);
-    }
-}
-
-impl Gate for Progress<'_> {
-    fn pass(&self, _piece: u64) {}
-
-    fn made(&self, run: &Named) {
-        let (first, last) = run.pieces();
-        if first != last {
-            return;
-        }
-        for segment in run.segments() {
-            self.step("folded", &self.folded, segment.bytes.len() as u64);
+        if let Some(now) = self.meter.now() {
+            self.read.add(bytes, now);
+            if self.meter.tells && self.meter.takes_turn(now) {
+                self.tell();
+            }
         }
     }
 }

@@ -8,7 +8,6 @@ pub mod Tellings
 pub mod OwnNames
 pub mod Covered
 pub mod PartitionsAgain
-pub mod WholeLogs
 pub mod SeenLogs
 pub mod StoryThere
 pub mod StoriesMore

@@ -9,7 +9,8 @@ use Rattle.eos_evidence.specs.declared.partition.Partition.{Partition}
 use Rattle.eos_evidence.specs.Evidence.{EvidenceParts, IsEvidence}
 use Rattle.eos_fold.specs.Parts.{PartLog}
 use Rattle.eos_manifest.specs.Manifests.{is_judged}
-use Rattle.eos_reading.specs.Wanted.{kept_log, wanted_logs}
+use Rattle.eos_reading.specs.declared.wanted.Wanted.TheVariants.{Texts}
+use Rattle.eos_reading.specs.Wanted.{kept_log, wanted_log, wanted_logs}
 use Rattle.eos_sought.specs.Partitions.{partition_named}
 use Rattle.eos_source_check.specs.Again.{name_of}
 use Rattle.eos_explaining.specs.Folders.{HasThem}
@@ -39,11 +40,13 @@ its_own e part log name i is named =
 same_one : (p q : Partition) (o : Option Partition) → o ≡ Some p → o ≡ Some q → p ≡ q
 same_one p q o a b = cc (a, b)
 
-pub whole_seen : (e : EvidenceParts) (read : List Partition) (part log whole : PartLog) (name : PartitionName) (p : Partition) → IsEvidence e → HasThem e read → IsItsLog e part log
-    → name ≡ record { topic = part.topic; partition = part.number } → partition_named name read ≡ Some p → IsLogOf p whole → whole ≡ log
-whole_seen e read part log whole name p is has i named found of =
+-- the keys, values and claims of the partition that was read are those of the log
+pub texts_seen : (e : EvidenceParts) (read : List Partition) (part log texts whole : PartLog) (name : PartitionName) (p : Partition) → IsEvidence e → HasThem e read → IsItsLog e part log
+    → name ≡ record { topic = part.topic; partition = part.number } → partition_named name read ≡ Some p → IsLogOf p whole → texts ≡ wanted_log Texts whole → texts ≡ wanted_log Texts log
+texts_seen e read part log texts whole name p is has i named found of wanted =
     let same : i.partition ≡ p = same_one i.partition p (partition_named name e.partitions) (its_own e part log name i is named) (there_by e read name p has found) in
-    one_log i.partition whole log (subst (λ (q : Partition). IsLogOf q whole) (sym same) of) i.of
+    let one : whole ≡ log = one_log i.partition whole log (subst (λ (q : Partition). IsLogOf q whole) (sym same) of) i.of in
+    wanted ∙ ap (wanted_log Texts) one
 
 -- its partition was read
 pub none_unread : (shape e : EvidenceParts) (read : List Partition) (part log : PartLog) (name : PartitionName) → IsEvidence shape → IsEvidence e → e.spec ≡ shape.spec → IsItsLog e part log
@@ -65,8 +68,8 @@ seen_kept apps part log is named =
     let so : is_judged apps log.topic ≡ true = ap (is_judged apps) (sym topic) ∙ named in
     is ∙ rw so refl
 
-pub seen_whole : (apps : List App) (part log whole : PartLog) → part ≡ kept_log apps log → is_judged apps part.topic ≡ false → whole ≡ log → whole ≡ seen_log apps log
-seen_whole apps part log whole is unnamed same =
+pub seen_texts : (apps : List App) (part log texts : PartLog) → part ≡ kept_log apps log → is_judged apps part.topic ≡ false → texts ≡ wanted_log Texts log → texts ≡ seen_log apps log
+seen_texts apps part log texts is unnamed same =
     let topic : part.topic ≡ log.topic = ap (λ (l : PartLog). l.topic) is in
     let so : is_judged apps log.topic ≡ false = ap (is_judged apps) (sym topic) ∙ unnamed in
     same ∙ rw so refl

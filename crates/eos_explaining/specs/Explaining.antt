@@ -62,7 +62,7 @@ pub record AreTold (e : EvidenceParts) (logs : List PartLog) (told : List Verdic
   pub are : AreAllFaults e logs of faults
   pub named : told ≡ map No faults
 
--- the logs as a story sees them: what is wanted of them; or, where it looks for claims, all that those say of whose topics no application is
+-- the logs as a story sees them: what is wanted of them; or, where it looks for claims, also the records of those of whose topics no application is
 abbrev pub AreSeen : EvidenceParts → List PartLog → List PartLog → Type 0
 AreSeen e logs seen = (seen ≡ wanted_logs e.spec.apps logs) ⊎ (seen ≡ seen_logs e.spec.apps logs)
 

@@ -17,7 +17,6 @@ mod sentences;
 mod stories;
 mod story;
 mod told;
-mod whole_log;
 mod whole_story;
 
 pub use folder::{Explained, Folder, Unexplained, Which, explain_folder, explain_folder_to};

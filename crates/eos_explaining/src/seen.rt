@@ -1,10 +1,12 @@
-//! The logs as a story sees them: what is kept of them; but where it looks for claims, all of those of whose topics no application is.
+//! The logs as a story sees them: what is kept of them; but where it looks for claims, of those of whose topics no application is
+//! the keys, values and claims too.
 
 ghost use Rattle.std.specs.Prelude.{◌≡◌, List, length, IfOk, IfErr, OnOk};
 ghost use Rattle.eos_evidence.specs.Evidence.{EvidenceParts, IsEvidence, segments_of};
 ghost use Rattle.eos_commits.specs.EvidenceLogs.{AreLogsOf};
 ghost use Rattle.eos_fold.specs.Parts.{PartLog};
-ghost use Rattle.eos_reading.specs.Wanted.{kept_log, wanted_logs};
+ghost use Rattle.eos_reading.specs.Wanted.{kept_log, wanted_log, wanted_logs};
+ghost use Rattle.eos_reading.specs.declared.wanted.Wanted.TheVariants.{Texts};
 ghost use Rattle.eos_source.specs.Said.{known_by};
 ghost use Rattle.eos_source_check.specs.Refusals.{IsUnread};
 ghost use Rattle.eos_explaining.specs.Explaining.{AreSeen};
@@ -14,12 +16,12 @@ ghost use Rattle.eos_explaining.specs.steps.Again.{ReadsMore};
 ghost use Rattle.eos_explaining.specs.steps.Found.{IsItsLog};
 
 use crate::again::read_name;
-use crate::whole_log::whole_log;
 use eos_base::PartitionName;
 use eos_check::Verdict;
 use eos_evidence::Partition;
-use eos_kept::{Logs, Part};
+use eos_kept::{Asked, Logs, Part, told_in};
 use eos_manifest::is_judged;
+use eos_reading::Wanted;
 use eos_sought::partition_named;
 use eos_source::Source;
 use eos_source_check::{Judged, Pieces, Unlisted};
@@ -53,8 +55,8 @@ fn name_of(part: &Part) -> Result<PartitionName, AllocError>
     })
 }
 
-/// A log of whose topic no application is, folded whole of its partition, which is read again.
-fn whole_of<S: Source>(
+/// The keys, values and claims of a log of whose topic no application is, of its partition, which is read again.
+fn texts_of<S: Source>(
     alloc: Global,
     pieces: &Pieces<'_, S>,
     read: &mut Vec<Partition>,
@@ -63,7 +65,7 @@ fn whole_of<S: Source>(
     requires evidence { IsEvidence pieces.now.shape.now }
     requires read { AreRead (known_by (S.said pieces.now.source.now) (S.is_log pieces.now.source.now)) pieces.now.shape.now.partitions read.old.items }
     ensures more { OnOk result (ReadsMore (known_by (S.said pieces.now.source.now) (S.is_log pieces.now.source.now)) pieces.now.shape.now.partitions read.old.items read.new.items) }
-    ensures seen { IfOk result (λ seen. (e : EvidenceParts) (log : PartLog) → IsEvidence e → e.spec ≡ pieces.now.shape.now.spec → HasThem e read.new.items → IsItsLog e part log → seen ≡ log) }
+    ensures seen { IfOk result (λ seen. (e : EvidenceParts) (log : PartLog) → IsEvidence e → e.spec ≡ pieces.now.shape.now.spec → HasThem e read.new.items → IsItsLog e part log → seen ≡ wanted_log Texts log) }
     ensures unread { IfErr result (IsUnread (S.outcomes pieces.now.source.now) (length (segments_of pieces.now.shape.now.partitions))) }
 {
     let name = name_of(&part)?;
@@ -71,8 +73,12 @@ fn whole_of<S: Source>(
     match partition_named(read.as_slice(), &name) {
         None => Ok(part),
         Some(partition) => {
-            let whole = whole_log(alloc, partition)?;
-            Ok(whole)
+            let asked = Asked {
+                wanted: Wanted::Texts,
+                topics: &[],
+            };
+            let told = told_in(alloc, asked, partition)?;
+            Ok(told.part)
         }
     }
 }
@@ -92,11 +98,11 @@ fn seen_of<S: Source>(
     if is_judged(apps, part.topic().as_slice()) {
         return Ok(part);
     }
-    let whole = whole_of(alloc, pieces, read, part)?;
-    Ok(whole)
+    let texts = texts_of(alloc, pieces, read, part)?;
+    Ok(texts)
 }
 
-/// These logs, of which those are whole of whose topics no application is.
+/// These logs, with the keys, values and claims of those of whose topics no application is.
 fn all_seen<S: Source>(
     alloc: Global,
     pieces: &Pieces<'_, S>,

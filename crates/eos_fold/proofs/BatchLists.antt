@@ -1,15 +1,16 @@
 -- Lists of batches, joined.
-use Rattle.std.proofs.Common.{◌≡◌, ℕ, Bool, true, false, cond, List, [], ◌∷◌, ◌++◌, map, Option, Some, None, refl, sym, ap, ◌∙◌, append_assoc, ℤ}
+use Rattle.std.proofs.Common.{◌≡◌, ℕ, Bool, true, false, cond, List, [], ◌∷◌, ◌++◌, map, Option, Some, None, refl, sym, ap, ◌∙◌, ℤ}
 use Rattle.std.specs.Option.{option_or}
 use Rattle.std.specs.Ordering.{int_eq}
 use Rattle.eos_touch.specs.declared.touch.Touch.{Touch}
 use Rattle.eos_batch.specs.declared.batch.Batch.{Batch}
 use Rattle.eos_fold.specs.declared.entry.Ending.{Ending}
 use Rattle.eos_fold.specs.declared.entry.Ending.TheVariants.{Plain, Ended, Waiting}
-use Rattle.eos_fold.specs.Batches.{DataBatch, with_ending, data_batch, ending_of}
+use Rattle.eos_fold.specs.Batches.{DataBatch, data_batch, ending_of}
+use Rattle.eos_fold.specs.steps.Endings.{with_ending}
 use Rattle.eos_fold.specs.declared.mark.EndMark.{EndMark}
 use Rattle.eos_fold.specs.declared.ends.Ends.{Ends}
-use Rattle.eos_fold.specs.Ends.{is_data, placed, mark_for, mark_of, first_placed, last_placed, first_marker, marks_of}
+use Rattle.eos_fold.specs.Ends.{is_data, placed, mark_for, mark_of, first_placed, last_placed, first_marker}
 use Rattle.eos_fold.specs.Settling.{ending_by, resolved, settled, data_after, data_in}
 use Rattle.eos_fold.specs.Tables.{AreEnds}
 use Rattle.eos_fold.specs.Taken.{IsJoined}
@@ -35,10 +36,6 @@ last_placed-append id (x ∷ xs) ys = ap (λ (o : Option (ℕ × Touch)). option
 pub first_marker-append : (id : ℤ) (xs ys : List Batch) → first_marker id (xs ++ ys) ≡ option_or (first_marker id xs) (first_marker id ys)
 first_marker-append id [] ys = refl
 first_marker-append id (x ∷ xs) ys = ap (option_or (mark_for id (mark_of x))) (first_marker-append id xs ys) ∙ sym (or-assoc (mark_for id (mark_of x)) (first_marker id xs) (first_marker id ys))
-
-pub marks_of-append : (xs ys : List Batch) → marks_of (xs ++ ys) ≡ marks_of xs ++ marks_of ys
-marks_of-append [] ys = refl
-marks_of-append (x ∷ xs) ys = rw (marks_of-append xs ys) (simp append_assoc)
 
 -- what is kept of an id, joined
 pub ends_joined : (id : ℤ) (xs ys : List Batch) (by : ℕ) (before after all : Ends) → AreEnds id xs before → AreEnds id ys after → IsJoined by before after all → AreEnds id (xs ++ ys) all

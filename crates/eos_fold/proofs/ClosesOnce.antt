@@ -1,6 +1,5 @@
--- Closes in ascending order, each once; and those of a log, batch by batch.
-use Rattle.std.proofs.Common.{◌≡◌, ℕ, zero, suc, ◌+◌, ◌<◌, ◌&&◌, true, false, Bool, List, [], ◌∷◌, ◌++◌, length, take, get_or, refl, sym, ap, subst, ◌∙◌, arith, inl, inr, IsPermutation, IsSorted, ℤ, append_assoc}
-use Rattle.std.specs.Prelude.{slice_get, Option, Some}
+-- Closes in ascending order, each once.
+use Rattle.std.proofs.Common.{◌≡◌, ℕ, zero, suc, ◌+◌, ◌<◌, ◌&&◌, true, false, Bool, List, [], ◌∷◌, length, get_or, refl, sym, ap, subst, ◌∙◌, arith, inl, inr, IsPermutation, IsSorted, ℤ}
 use Rattle.std.specs.List.{Contains, dedup}
 use Rattle.std.specs.List.Sorted.{IsStrictlySortedBy}
 use Rattle.std.specs.Cmp.{IsTotalOrder, IsEquivalence}
@@ -18,10 +17,8 @@ use Rattle.eos_batch.specs.declared.marker.Kind.{Kind}
 use Rattle.eos_batch.specs.declared.marker.Kind.TheVariants.{Commit, Abort}
 use Rattle.eos_batch.specs.contracts.marker.KindOrd.TheImpl.{ghosts as kind_order}
 use Rattle.eos_batch.specs.contracts.marker.KindPartialEq.TheImpl.{ghosts as kind_test}
-use Rattle.eos_fold.specs.Batches.{DataBatch}
-use Rattle.eos_fold.specs.declared.entry.Ending.{Ending}
 use Rattle.eos_fold.specs.declared.close.Close.{Close}
-use Rattle.eos_fold.specs.Closes.{close_in, closes_in, rank_of, close_cmp}
+use Rattle.eos_fold.specs.Closes.{rank_of, close_cmp}
 use Rattle.eos_fold.specs.contracts.close.CloseOrd.TheImpl.{ghosts as order}
 use Rattle.eos_fold.specs.contracts.close.ClosePartialEq.TheImpl.{ghosts as test}
 use Rattle.eos_fold.specs.Parts.{Ascends, AreCloses}
@@ -139,25 +136,3 @@ laws = record {
 
 pub once_is : (all mid closes : List Close) → IsPermutation all mid → IsSorted order.cmp mid → closes ≡ dedup test.eq mid → AreCloses all closes
 once_is = each_once order.cmp alike test.eq ties laws
-
--- ---- batch by batch
-
-closes_in-append : (xs ys : List DataBatch) → closes_in (xs ++ ys) ≡ closes_in xs ++ closes_in ys
-closes_in-append [] ys = refl
-closes_in-append (x ∷ xs) ys = ap (λ (cs : List Close). close_in x.writer x.ending ++ cs) (closes_in-append xs ys) ∙ sym (append_assoc (close_in x.writer x.ending) (closes_in xs) (closes_in ys))
-
-take_one : (xs : List DataBatch) (i : ℕ) (x : DataBatch) → slice_get xs i ≡ Some x → take (suc i) xs ≡ take i xs ++ x ∷ []
-take_one [] i x e = absurd cc
-take_one (y ∷ ys) zero x e = let f : y ≡ x = cc in ap (λ (z : DataBatch). z ∷ []) f
-take_one (y ∷ ys) (suc i) x e = ap (λ (zs : List DataBatch). y ∷ zs) (take_one ys i x e)
-
-append-nil : {X : Type 0} (xs : List X) → xs ++ [] ≡ xs
-append-nil [] = refl
-append-nil (x ∷ xs) = ap (λ ys. x ∷ ys) (append-nil xs)
-
-pub close_more : (bs : List DataBatch) (i j : ℕ) (b : DataBatch) (told : Option (ℤ × ℤ) × Ending) (old new : List Close) → j ≡ i + 1 → slice_get bs i ≡ Some b → told ≡ (b.writer, b.ending) → old ≡ closes_in (take i bs) → new ≡ old ++ close_in told.0 told.1 → new ≡ closes_in (take j bs)
-close_more bs i j b told old new next at is h n =
-    let step : j ≡ suc i = omega (arith, next) in
-    let more : closes_in (take j bs) ≡ closes_in (take i bs) ++ close_in b.writer b.ending =
-    ap (λ (k : ℕ). closes_in (take k bs)) step ∙ (ap closes_in (take_one bs i b at) ∙ (closes_in-append (take i bs) (b ∷ []) ∙ ap (λ (cs : List Close). closes_in (take i bs) ++ cs) (append-nil (close_in b.writer b.ending)))) in
-    n ∙ (ap (λ (t : Option (ℤ × ℤ) × Ending). old ++ close_in t.0 t.1) is ∙ (ap (λ (cs : List Close). cs ++ close_in b.writer b.ending) h ∙ sym more))

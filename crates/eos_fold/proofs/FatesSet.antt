@@ -2,9 +2,8 @@
 use Rattle.std.proofs.Common.{◌≡◌, ℕ, zero, suc, ◌+◌, ◌<◌, List, [], ◌∷◌, ◌++◌, length, map, refl, sym, ap, ◌∙◌, arith, slice_index_or, slice_set, drop, take}
 use Rattle.std.proofs.lemmas.List.Edits.{map_over_more}
 use Rattle.eos_fold.specs.declared.entry.Ending.{Ending}
-use Rattle.eos_fold.specs.Batches.{DataBatch, set_ending}
-use Rattle.eos_fold.proofs.BeginPlaces.{set_ending-length}
-use Rattle.eos_fold.specs.steps.Endings.{set_endings}
+use Rattle.eos_fold.specs.Batches.{DataBatch}
+use Rattle.eos_fold.specs.steps.Endings.{set_ending, set_endings}
 
 one_more : (i : ℕ) → suc (i + 1) ≡ suc i + 1
 one_more i = omega arith
@@ -16,10 +15,6 @@ ending_next f places xs i d l = ap (λ (ps : List ℕ). set_endings f ps xs) (sy
     front [] i l = absurd (omega arith)
     front (p ∷ ps) zero l = refl
     front (p ∷ ps) (suc i) l = front ps i (omega arith) ∙ ap (λ n. slice_index_or ps i d ∷ drop n (p ∷ ps)) (one_more i)
-
-pub set_endings-length : (f : Ending) (ps : List ℕ) (xs : List DataBatch) → length (set_endings f ps xs) ≡ length xs
-set_endings-length f [] xs = refl
-set_endings-length f (p ∷ ps) xs = set_endings-length f ps (set_ending f p xs) ∙ set_ending-length f p xs
 
 any_default : (ns : List ℕ) (i d e : ℕ) → i < length ns → slice_index_or ns i d ≡ slice_index_or ns i e
 any_default [] i d e l = absurd (omega arith)

@@ -1,5 +1,5 @@
 -- A walk that is fed: what stays when further bytes follow, and what it says at the end.
-use Rattle.std.proofs.Common.{◌≡◌, ◌≢◌, ℕ, ◌+◌, ◌≤◌, true, false, List, [], ◌∷◌, ◌++◌, length, drop, Option, Some, None, Result, Ok, Err, refl, sym, ap, subst, ◌∙◌, append_assoc, arith, pos}
+use Rattle.std.proofs.Common.{◌≡◌, ◌≢◌, ℕ, ◌+◌, ◌≤◌, false, List, [], ◌∷◌, ◌++◌, length, drop, Option, Some, None, Result, Ok, Err, refl, sym, ap, subst, ◌∙◌, append_assoc, arith, pos}
 use Rattle.std.specs.Prelude.{is_some, IfOk, IfErr, MatchResult}
 use Rattle.std.proofs.lemmas.List.{append-nil, length-append}
 use Rattle.eos_batch.specs.declared.batch.Batch.{Batch}
@@ -47,16 +47,6 @@ pub fed_none : (walk : Walk) → HasPassed [] walk → IsFed [] [] (record { wal
 fed_none walk h = record {
   ends = record { before = []; passed = h; texts = refl; cut = batch_none };
   place = λ e. refl;
-}
-
-ends_stopped : (fed waiting more left : List ℕ) (walk : Walk) (o : Option PartitionFault) → is_some o ≡ true → EndsAt fed waiting walk o → EndsAt (fed ++ more) left walk o
-ends_stopped fed waiting more left walk None e h = absurd cc
-ends_stopped fed waiting more left walk (Some f) e h = λ last. subst (λ (xs : List ℕ). IsLeastFault xs f) (sym (append_assoc fed more last)) (h (more ++ last))
-
-pub fed_stopped : (fed waiting more left : List ℕ) (w : FedWalk) → is_some w.fault ≡ true → IsFed fed waiting w → IsFed (fed ++ more) left w
-fed_stopped fed waiting more left w e f = record {
-  ends = ends_stopped fed waiting more left w.walk w.fault e f.ends;
-  place = λ none. let q : true ≡ false = sym e ∙ ap (λ (o : Option PartitionFault). is_some o) none in cc;
 }
 
 pub is_none : (o : Option PartitionFault) → is_some o ≡ false → o ≡ None

@@ -1,5 +1,5 @@
 -- A summary joined from two.
-use Rattle.std.proofs.Common.{◌≡◌, ℕ, ◌+◌, ◌<◌, ◌^◌, Bool, List, ◌++◌, length, Option, Some, None, refl, sym, ap, subst, ◌∙◌, arith, ℤ}
+use Rattle.std.proofs.Common.{◌≡◌, ℕ, ◌+◌, ◌<◌, ◌^◌, Bool, List, length, Option, Some, refl, sym, ap, subst, ◌∙◌, arith, ℤ}
 use Rattle.std.specs.List.{All}
 use Rattle.std.specs.Ordering.{int_cmp}
 use Rattle.std.specs.BTreeMap.{get}
@@ -7,17 +7,16 @@ use Rattle.eos_batch.specs.declared.batch.Batch.{Batch}
 use Rattle.eos_fold.specs.Batches.{DataBatch}
 use Rattle.eos_fold.specs.declared.ends.Ends.{Ends}
 use Rattle.eos_fold.specs.declared.fault.Fault.{Fault}
-use Rattle.eos_fold.specs.declared.batch_summary.BatchSummary.{BatchSummary}
-use Rattle.eos_fold.specs.Settling.{data_in, waiting_in}
+use Rattle.eos_fold.specs.Settling.{waiting_in}
 use Rattle.eos_fold.specs.Tables.{Table, ends_in, ends_at, AreEnds, KeepsIndexes}
 use Rattle.eos_fold.specs.Taken.{IsReadyFor}
 use Rattle.eos_fold.specs.Faults.{IsSettled, IsLeastOf}
 use Rattle.eos_fold.specs.Earlier.{earlier}
-use Rattle.eos_fold.specs.Summaries.{IsSummary, SameEnds, SameSummary}
-use Rattle.eos_fold.specs.steps.Joins.{rest_of, Starts, IsTaking, IsTaken}
+use Rattle.eos_fold.specs.Summaries.{BatchSummary, IsSummary, SameEnds}
+use Rattle.eos_fold.specs.steps.Summaries.{SameSummary}
+use Rattle.eos_fold.specs.steps.Joins.{rest_of, Starts, IsTaking}
 use Rattle.eos_fold.proofs.Waiting.{all_below}
 use Rattle.eos_fold.proofs.SettledFaults.{least_or}
-use Rattle.eos_fold.proofs.TakingOver.{all_ends, all_places, all_items, all_faults}
 
 pub same_ends_of : (id : ℤ) (hs : List Batch) (e f : Ends) → SameEnds e f → AreEnds id hs e → AreEnds id hs f
 same_ends_of id hs e f s a = record { first = s.first ∙ a.first; last = s.last ∙ a.last; marker = s.marker ∙ a.marker }
@@ -45,7 +44,7 @@ can_take t is js u ready places after small = record {
   number = refl;
 }
 
-pub starts : (xs ys : List Batch) (s t : BatchSummary) → IsSummary xs s → IsSummary ys t → t.sequenced ≡ s.sequenced → Starts xs ys s.sequenced s.producers s.index.batches (earlier s.fault t.fault) (rest_of t.producers)
+pub starts : (xs ys : List Batch) (s t : BatchSummary) → IsSummary xs s → IsSummary ys t → t.sequenced ≡ s.sequenced → Starts xs ys s.sequenced s.producers s.batches (earlier s.fault t.fault) (rest_of t.producers)
 starts xs ys s t p q e = record {
   before = p.ends;
   after = q.ends;
@@ -54,13 +53,3 @@ starts xs ys s t p q e = record {
   places_after = λ id. q.places id ∙ ap (waiting_in id) q.items;
   fault = least_or (IsSettled s.sequenced xs) (IsSettled s.sequenced ys) s.fault t.fault p.fault (subst (λ (b : Bool). IsLeastOf (IsSettled b ys) t.fault) e q.fault);
 }
-
-pub ends_taken : (xs ys : List Batch) (s t r : BatchSummary) (is : List DataBatch) → IsSummary xs s → IsSummary ys t → IsTaken xs ys s.sequenced r.producers is r.fault (λ id. None) → r.sequenced ≡ s.sequenced → r.index.batches ≡ is ++ t.index.batches → IsSummary (xs ++ ys) r
-ends_taken xs ys s t r is p q w sequenced items =
-    let both : r.index.batches ≡ is ++ data_in ys = items ∙ ap (λ (js : List DataBatch). is ++ js) q.items in
-    record {
-      items = both ∙ all_items xs ys s.sequenced r.producers is r.fault (λ id. None) (λ id. refl) w;
-      ends = all_ends xs ys s.sequenced r.producers is r.fault (λ id. None) (λ id. refl) w;
-      places = λ id. all_places xs ys s.sequenced r.producers is r.fault (λ id. None) (λ id. refl) w id ∙ ap (waiting_in id) (sym both);
-      fault = subst (λ (b : Bool). IsLeastOf (IsSettled b (xs ++ ys)) r.fault) (sym sequenced) (all_faults xs ys s.sequenced r.producers is r.fault (λ id. None) (λ id. refl) w);
-    }

@@ -16,9 +16,7 @@ use Rattle.eos_evidence.specs.Topics.{is_internal}
 use Rattle.eos_touch.specs.declared.pair.PairFault.{PairFault}
 use Rattle.eos_touch.specs.declared.pair.PairFault.TheVariants.{FirstSequence, Sequence, ZombieEpoch, EpochWhileOpen, NoBump, MixedProducer, MarkerKind}
 use Rattle.eos_touch.specs.Pair as pair
-use Rattle.eos_evidence.specs.declared.segment.Segment.{Segment}
 use Rattle.eos_fold.specs.declared.fault.Fault.{Fault}
-use Rattle.eos_fold.specs.Summaries.{IsSummary}
 use Rattle.eos_fold.specs.Faults.{IsLeastOf}
 use Rattle.eos_fold.specs.BatchesWhole.{StandsInWhole, IsLeastOpen}
 use Rattle.eos_fold.specs.declared.stop.Stop.{Stop}
@@ -26,15 +24,13 @@ use Rattle.eos_fold.specs.declared.stop.Stop.TheVariants.{AtEnd, NoBatch, Elsewh
 use Rattle.eos_touch.specs.declared.fault.PartitionFault.{PartitionFault}
 use Rattle.eos_touch.specs.declared.fault.PartitionFaultKind.{PartitionFaultKind}
 use Rattle.eos_touch.specs.declared.fault.PartitionFaultKind.TheVariants.{BadBatch, Gap, Pair, End, OpenAtEnd}
-use Rattle.eos_fold.specs.declared.summary.Summary.{Summary}
 use Rattle.eos_touch.specs.FaultNames.{number_of}
 use Rattle.eos_touch.specs.Touches.{last_touch}
 use Rattle.eos_touch.specs.Front.{records_in}
 use Rattle.eos_fold.specs.Standing.{StandsAtTouch, IsOpen, StandsIn, producer_of, fault_cmp, IsPartitionFault}
 use Rattle.eos_fold.specs.Stops.{kind_at_stop}
-use Rattle.eos_fold.specs.steps.Whole.{IsWhole}
 use Rattle.eos_fold.proofs.TouchesInWhole.{pairs_to, pairs_from, open_to, open_from}
-use Rattle.eos_fold.proofs.SteadyFronts.{IsSteady, front_steady, touch_inside, one_id}
+use Rattle.eos_fold.proofs.SteadyFronts.{IsSteady, touch_inside, one_id}
 
 -- ---- the order
 
@@ -214,7 +210,7 @@ module _ (topic : List ℕ) (number end : ℤ) (bs : List Batch) (stop : Stop) (
           differ : true ≡ false → ⊥
           differ z = cc
 
--- ---- what a summary answers
+-- ---- what is answered
 
 same_fault : (r : PartitionFault) (topic : List ℕ) (number : ℤ) (offset : ℕ) (kind : PartitionFaultKind) → r.topic ≡ topic → r.partition ≡ number → r.offset ≡ offset → r.kind ≡ kind → record { topic = topic; partition = number; offset = offset; kind = kind } ≡ r
 same_fault r topic number offset kind a b c d =
@@ -226,33 +222,26 @@ same_fault r topic number offset kind a b c d =
 checks : (topic : List ℕ) (hs : List Batch) (b : Bool) (f : Option Fault) → b ≡ not (is_internal topic) → IsLeastOf (StandsInWhole b hs) f → IsLeastOf (StandsInWhole (not (is_internal topic)) hs) f
 checks topic hs b f e h = subst (λ (c : Bool). IsLeastOf (StandsInWhole c hs) f) e h
 
-end_is : (topic : List ℕ) (segments : List Segment) (s : Summary) → (w : IsWhole topic segments s) → s.next ≡ records_in w.batches
-end_is topic segments s w = let n = w.keeps.next in let b = w.begin in omega (arith, n, b)
+module _ (topic : List ℕ) (number end : ℤ) (bs : List Batch) (stop : Stop) (sequenced : Bool) (front : IsSteady 0 bs) (checked : sequenced ≡ not (is_internal topic)) where
+  pub touch_answer : (f : Fault) (r : PartitionFault) → IsLeastOf (StandsInWhole sequenced bs) (Some f)
+      → r.topic ≡ topic → r.partition ≡ number → r.offset ≡ f.offset → r.kind ≡ Pair f.kind f.producer → IsPartitionFault topic number end bs stop (Some r)
+  touch_answer f r h a b c d =
+      subst (λ (x : PartitionFault). IsPartitionFault topic number end bs stop (Some x)) (same_fault r topic number f.offset (Pair f.kind f.producer) a b c d)
+      (at_touch topic number end bs stop front f (checks topic bs sequenced (Some f) checked h))
 
-pub touch_answer : (topic : List ℕ) (number end : ℤ) (segments : List Segment) (s : Summary) (w : IsWhole topic segments s) (f : Fault) (r : PartitionFault)
-    → ((hs : List Batch) → IsSummary hs s.run → IsLeastOf (StandsInWhole s.run.sequenced hs) (Some f))
-    → r.topic ≡ topic → r.partition ≡ number → r.offset ≡ f.offset → r.kind ≡ Pair f.kind f.producer → IsPartitionFault topic number end w.batches s.stop (Some r)
-touch_answer topic number end segments s w f r h a b c d =
-    subst (λ (x : PartitionFault). IsPartitionFault topic number end w.batches s.stop (Some x)) (same_fault r topic number f.offset (Pair f.kind f.producer) a b c d)
-    (at_touch topic number end w.batches s.stop (front_steady 0 segments w.batches s.stop w.front) f (checks topic (w.batches) s.run.sequenced (Some f) w.sequenced (h (w.batches) w.keeps.known)))
+  stop_answer : (next : ℕ) (left : Option ℤ) (kind : Option PartitionFaultKind) → IsLeastOf (StandsInWhole sequenced bs) None → IsLeastOpen bs left → next ≡ records_in bs
+      → kind ≡ kind_at_stop stop next end left → IsPartitionFault topic number end bs stop (placed topic number end bs stop front kind)
+  stop_answer next left kind h o n e =
+      let same : kind_at_stop stop (records_in bs) end left ≡ kind = ap (λ (m : ℕ). kind_at_stop stop m end left) (sym n) ∙ sym e in
+      subst (λ (k : Option PartitionFaultKind). IsPartitionFault topic number end bs stop (placed topic number end bs stop front k)) same
+      (at_stop topic number end bs stop front (checks topic bs sequenced None checked h) left o stop refl)
 
-stop_answer : (topic : List ℕ) (number end : ℤ) (segments : List Segment) (s : Summary) (w : IsWhole topic segments s) (left : Option ℤ) (kind : Option PartitionFaultKind)
-    → ((hs : List Batch) → IsSummary hs s.run → IsLeastOf (StandsInWhole s.run.sequenced hs) None) → ((hs : List Batch) → IsSummary hs s.run → IsLeastOpen hs left)
-    → kind ≡ kind_at_stop s.stop s.next end left → IsPartitionFault topic number end w.batches s.stop (placed topic number end w.batches s.stop (front_steady 0 segments w.batches s.stop w.front) kind)
-stop_answer topic number end segments s w left kind h o e =
-    let steady = front_steady 0 segments w.batches s.stop w.front in
-    let same : kind_at_stop s.stop (records_in w.batches) end left ≡ kind = ap (λ (n : ℕ). kind_at_stop s.stop n end left) (sym (end_is topic segments s w)) ∙ sym e in
-    subst (λ (k : Option PartitionFaultKind). IsPartitionFault topic number end w.batches s.stop (placed topic number end w.batches s.stop steady k)) same
-    (at_stop topic number end w.batches s.stop steady (checks topic (w.batches) s.run.sequenced None w.sequenced (h (w.batches) w.keeps.known)) left (o (w.batches) w.keeps.known) s.stop refl)
+  pub kind_answer : (next : ℕ) (left : Option ℤ) (kind : PartitionFaultKind) (r : PartitionFault) → IsLeastOf (StandsInWhole sequenced bs) None → IsLeastOpen bs left → next ≡ records_in bs
+      → Some kind ≡ kind_at_stop stop next end left → r.topic ≡ topic → r.partition ≡ number → r.offset ≡ next → r.kind ≡ kind → IsPartitionFault topic number end bs stop (Some r)
+  kind_answer next left kind r h o n e a b c d =
+      subst (λ (x : PartitionFault). IsPartitionFault topic number end bs stop (Some x)) (same_fault r topic number (records_in bs) kind a b (c ∙ n) d)
+      (stop_answer next left (Some kind) h o n e)
 
-pub kind_answer : (topic : List ℕ) (number end : ℤ) (segments : List Segment) (s : Summary) (w : IsWhole topic segments s) (left : Option ℤ) (kind : PartitionFaultKind) (r : PartitionFault)
-    → ((hs : List Batch) → IsSummary hs s.run → IsLeastOf (StandsInWhole s.run.sequenced hs) None) → ((hs : List Batch) → IsSummary hs s.run → IsLeastOpen hs left)
-    → Some kind ≡ kind_at_stop s.stop s.next end left → r.topic ≡ topic → r.partition ≡ number → r.offset ≡ s.next → r.kind ≡ kind → IsPartitionFault topic number end w.batches s.stop (Some r)
-kind_answer topic number end segments s w left kind r h o e a b c d =
-    subst (λ (x : PartitionFault). IsPartitionFault topic number end w.batches s.stop (Some x)) (same_fault r topic number (records_in w.batches) kind a b (c ∙ end_is topic segments s w) d)
-    (stop_answer topic number end segments s w left (Some kind) h o e)
-
-pub none_answer : (topic : List ℕ) (number end : ℤ) (segments : List Segment) (s : Summary) (w : IsWhole topic segments s) (left : Option ℤ)
-    → ((hs : List Batch) → IsSummary hs s.run → IsLeastOf (StandsInWhole s.run.sequenced hs) None) → ((hs : List Batch) → IsSummary hs s.run → IsLeastOpen hs left)
-    → None ≡ kind_at_stop s.stop s.next end left → IsPartitionFault topic number end w.batches s.stop None
-none_answer topic number end segments s w left h o e = stop_answer topic number end segments s w left None h o e
+  pub none_answer : (next : ℕ) (left : Option ℤ) → IsLeastOf (StandsInWhole sequenced bs) None → IsLeastOpen bs left → next ≡ records_in bs
+      → None ≡ kind_at_stop stop next end left → IsPartitionFault topic number end bs stop None
+  none_answer next left h o n e = stop_answer next left None h o n e

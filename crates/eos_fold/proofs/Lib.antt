@@ -1,4 +1,3 @@
-pub mod SegmentWalks
 pub mod JoinedFronts
 pub mod TouchesInWhole
 pub mod SteadyFronts
@@ -6,17 +5,8 @@ pub mod LeastInWhole
 pub mod ClosesRead
 pub mod ClosesOnce
 pub mod RisingItems
-pub mod PartsMade
-pub mod ManySegments
-pub mod PushedEntries
 pub mod IndexedBatches
 pub mod ListPlaces
-pub mod SegmentEntries
-pub mod SettledBatches
-pub mod ReadBatches
-pub mod LogPlaces
-pub mod BeginPlaces
-pub mod CursorPlaces
 pub mod Waiting
 pub mod FatesSet
 pub mod TableWrites

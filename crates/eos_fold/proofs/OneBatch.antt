@@ -7,8 +7,7 @@ use Rattle.std.proofs.lemmas.List.Elements.{All-from_recursion}
 use Rattle.eos_touch.specs.Pair.{is_open}
 use Rattle.std.proofs.lemmas.List.{append-nil}
 use Rattle.eos_fold.specs.declared.entry.Ending.{Ending}
-use Rattle.eos_fold.specs.declared.batch_summary.BatchSummary.{BatchSummary}
-use Rattle.eos_fold.specs.Summaries.{IsSummary, SameEnds}
+use Rattle.eos_fold.specs.Summaries.{BatchSummary, IsSummary, SameEnds}
 use Rattle.std.proofs.lemmas.Int.{ints}
 use Rattle.std.specs.Ordering.{int_eq, int_cmp}
 use Rattle.std.specs.BTreeMap.{get}
@@ -30,12 +29,11 @@ use Rattle.eos_fold.specs.Tables.{Table, ends_in, ends_at, AreEnds, KeepsIndexes
 use Rattle.eos_fold.specs.Taken.{AreEndsOf, waiting_alone, IsReadyFor}
 use Rattle.eos_fold.specs.steps.Alone.{rest_alone}
 use Rattle.eos_fold.specs.Faults.{IsSettled, IsLeastOf}
-use Rattle.eos_fold.specs.steps.Joins.{Starts, IsTaking, IsTaken, TakesFrom}
+use Rattle.eos_fold.specs.steps.Joins.{Starts, IsTaking, TakesFrom}
 use Rattle.eos_fold.proofs.TableWrites.{same_id, id_same}
 use Rattle.eos_fold.proofs.SettledFaults.{least_same}
 use Rattle.eos_batch.specs.declared.record.Record.{Record}
 use Rattle.eos_fold.proofs.JoinedSummaries.{same_ends_of}
-use Rattle.eos_fold.proofs.TakingOver.{all_ends, all_places, all_items, all_faults}
 
 or-none : {X : Type 0} (a : Option X) → option_or a None ≡ a
 or-none None = refl
@@ -184,16 +182,7 @@ alone_taking by t is p e ready places fits number = record {
 pub takes_same : (s : Bool) (xs : List Batch) (t u : Table) (is : List DataBatch) (f : Option Fault) → ((id : ℤ) → SameEnds (ends_at t id) (ends_at u id)) → TakesFrom s xs t is f → TakesFrom s xs u is f
 takes_same s xs t u is f same w = record { ends = λ id. same_ends_of id xs (ends_at t id) (ends_at u id) (same id) (w.ends id); items = w.items; fault = w.fault }
 
--- one batch more
-pub pushed : (xs : List Batch) (h : Batch) (s r : BatchSummary) (is : List DataBatch) → IsSummary xs s → IsTaken xs (h ∷ []) s.sequenced r.producers is r.fault (λ id. None) → r.sequenced ≡ s.sequenced → r.index.batches ≡ is ++ data_in (h ∷ []) → IsSummary (xs ++ h ∷ []) r
-pushed xs h s r is p w sequenced items = record {
-  items = items ∙ all_items xs (h ∷ []) s.sequenced r.producers is r.fault (λ id. None) (λ id. refl) w;
-  ends = all_ends xs (h ∷ []) s.sequenced r.producers is r.fault (λ id. None) (λ id. refl) w;
-  places = λ id. all_places xs (h ∷ []) s.sequenced r.producers is r.fault (λ id. None) (λ id. refl) w id ∙ ap (waiting_in id) (sym items);
-  fault = subst (λ (b : Bool). IsLeastOf (IsSettled b (xs ++ h ∷ [])) r.fault) (sym sequenced) (all_faults xs (h ∷ []) s.sequenced r.producers is r.fault (λ id. None) (λ id. refl) w);
-}
-
-pub nothing_known : (r : BatchSummary) → r.index.batches ≡ [] → ((id : ℤ) → ends_at r.producers id ≡ ends_in None) → r.fault ≡ None → IsSummary [] r
+pub nothing_known : (r : BatchSummary) → r.batches ≡ [] → ((id : ℤ) → ends_at r.producers id ≡ ends_in None) → r.fault ≡ None → IsSummary [] r
 nothing_known r items blank fault = record {
   items = items;
   ends = λ id. record { first = ap (λ (e : Ends). e.first) (blank id); last = ap (λ (e : Ends). e.last) (blank id); marker = ap (λ (e : Ends). e.marker) (blank id) };

@@ -1,5 +1,5 @@
 -- A front's batches: each base offset is the number of records before, and each batch has a record.
-use Rattle.std.proofs.Common.{◌≡◌, ◌≢◌, not, ℕ, ◌+◌, ◌<◌, ◌≤◌, inl, inr, List, [], ◌∷◌, ◌++◌, length, sym, ap, subst, ◌∙◌, arith, Bool, Some, ℤ}
+use Rattle.std.proofs.Common.{◌≡◌, ℕ, ◌+◌, ◌<◌, ◌≤◌, inl, inr, List, [], ◌∷◌, ◌++◌, length, sym, ap, subst, ◌∙◌, arith, Bool, Some, ℤ}
 use Rattle.std.specs.Prelude.{unsigned_abs, ⊤}
 use Rattle.eos_batch.specs.declared.batch.Batch.{Batch}
 use Rattle.eos_batch.specs.Segment.{Splits}
@@ -13,12 +13,6 @@ use Rattle.eos_fold.specs.Fronts.{GoesOn, IsFront}
 use Rattle.eos_fold.specs.Standing.{StandsAtTouch}
 use Rattle.eos_touch.specs.declared.touch.Touch.{Touch}
 use Rattle.eos_touch.specs.Touches.{touch_of}
-use Rattle.eos_evidence.specs.Topics.{is_internal}
-use Rattle.eos_fold.specs.Summaries.{IsSummary}
-use Rattle.eos_fold.specs.declared.summary.Summary.{Summary}
-use Rattle.eos_fold.specs.Sums.{BeginsAt}
-use Rattle.eos_fold.specs.steps.Whole.{IsWhole}
-use Rattle.eos_fold.proofs.JoinedFronts.{other_name}
 use Rattle.eos_touch.proofs.Continuity.{records_in-append, continues-cut, continues-last}
 
 abbrev pub HaveRecords : List Batch → Type 0
@@ -110,15 +104,3 @@ one_id s bs o k l p q h t u =
   where
     pair_is : (x y : ℤ × Touch) → Some x ≡ Some y → x ≡ y
     pair_is x y e = cc
-
--- ---- the first segment isn't named 0
-
-pub begins_elsewhere : (topic : List ℕ) (segments : List Segment) (begin : ℕ) (s : Summary) → BeginsAt segments begin → begin ≢ 0 → s.begin ≡ 0 → s.next ≡ 0 → s.stop ≡ Elsewhere begin → s.markers.items ≡ []
-    → s.run.sequenced ≡ not (is_internal topic) → IsSummary [] s.run → IsWhole topic segments s
-begins_elsewhere topic segments begin s first other zero next stop markers sequenced known = record {
-  batches = [];
-  begin = zero;
-  sequenced = sequenced;
-  front = subst (λ (st : Stop). IsFront 0 segments [] st) (sym stop) (other_name 0 segments begin first other);
-  keeps = record { next = omega (arith, zero, next); fits = omega (arith, next); markers = markers; known = known };
-}

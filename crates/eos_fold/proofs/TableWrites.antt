@@ -46,9 +46,6 @@ same_after m n p w h s q = by_test (int_eq p q) refl
         subst (λ (x : ℤ). SameEnds (ends_at m x) (ends_at n x)) i (subst (λ (y : Ends). SameEnds (ends_at m p) y) (sym (written_at m n p w h)) s)
     by_test false e = subst (λ (y : Ends). SameEnds (ends_at m q) y) (sym (ap ends_in (other_than m n p w h q e))) (same_ends (ends_at m q))
 
-pub kept_after : (m n : Table) (p : ℤ) (w : Ends) → Writes m p w n → (q : ℤ) → IsSome (get int_cmp m q) → IsSome (get int_cmp n q)
-kept_after m n p w h q s = elim (int_eq p q) as (λ t. get int_cmp n q ≡ cond t (Some w) (get int_cmp m q) → IsSome (get int_cmp n q)) [ true ↦ λ e. ap is_some e | false ↦ λ e. ap is_some e ∙ s ] (h.at q)
-
 pub same_trans : (a b c : Ends) → SameEnds a b → SameEnds b c → SameEnds a c
 same_trans a b c s t = record { first = t.first ∙ s.first; last = t.last ∙ s.last; marker = t.marker ∙ s.marker; waiting = t.waiting ∙ s.waiting; room = omega (arith, s.room, t.room) }
 
@@ -109,6 +106,3 @@ ok_of X (Err y) e x = absurd cc
 pub on_ok_map : {E : Type 0} (X Y : Type 0) (r : Result (Unit {0}) E) → (X → Y) → OnOk r X → OnOk r Y
 on_ok_map X Y (Ok u) f x = f x
 on_ok_map X Y (Err e) f x = tt
-
-pub empty_ends : (m : Table) → m.entries ≡ [] → (id : ℤ) → ends_at m id ≡ ends_in None
-empty_ends m e id = ap (λ (es : List (ℤ × Ends)). ends_in (lookup (is_at (int_cmp id)) es)) e

@@ -8,10 +8,10 @@ use Rattle.std.specs.Ordering.{int_eq}
 use Rattle.std.proofs.lemmas.Bool.Decides.{Decides-int_eq}
 use Rattle.eos_fold.specs.declared.entry.Ending.{Ending}
 use Rattle.eos_fold.specs.declared.entry.Ending.TheVariants.{Plain, Ended, Waiting}
-use Rattle.eos_fold.specs.Batches.{DataBatch, with_ending, set_ending}
+use Rattle.eos_fold.specs.Batches.{DataBatch}
 use Rattle.eos_fold.specs.declared.mark.EndMark.{EndMark}
 use Rattle.eos_fold.specs.Settling.{ended, ending_by, resolved, settled, waits, waiting_from, waiting_in}
-use Rattle.eos_fold.specs.steps.Endings.{set_endings}
+use Rattle.eos_fold.specs.steps.Endings.{with_ending, set_ending, set_endings}
 use Rattle.eos_fold.specs.steps.Summaries.{only}
 
 pub waiting_from-append : (at : ℕ) (id : ℤ) (xs ys : List DataBatch) → waiting_from at id (xs ++ ys) ≡ waiting_from at id xs ++ waiting_from (at + length xs) id ys

@@ -1,11 +1,11 @@
 -- The data batches of a log, each with how its transaction ended.
 -- Source: Kafka's documentation, Message Format, "Record Batch" (baseOffset, attributes, producerId, producerEpoch);
 -- KIP-98 for what an end marker does to the batches of its producer id before it.
-use Rattle.std.specs.Prelude.{ℕ, zero, suc, ℤ, List, [], ◌∷◌, Option, Some, None, if◌then◌else◌}
+use Rattle.std.specs.Prelude.{ℕ, ℤ, List, Option, Some, None, if◌then◌else◌}
 use Rattle.eos_batch.specs.declared.batch.Batch.{Batch}
 use Rattle.eos_batch.specs.declared.record.Record.{Record}
 use Rattle.eos_batch.specs.declared.marker.Kind.TheVariants.{Commit, Abort}
-use Rattle.eos_batch.specs.Attributes.{is_transactional, is_control}
+use Rattle.eos_batch.specs.Attributes.{is_transactional}
 use Rattle.eos_batch.specs.Offsets.{offset_of}
 use Rattle.eos_fold.specs.declared.entry.Ending.{Ending}
 use Rattle.eos_fold.specs.declared.entry.Ending.TheVariants.{Plain, Ended, Waiting}
@@ -36,18 +36,3 @@ ending_of b = if is_transactional b.attributes then Waiting b.producer else Plai
 
 abbrev pub data_batch : Batch → DataBatch
 data_batch b = record { offset = offset_of b; writer = writer_of b; ending = ending_of b; records = b.records }
-
--- control batches are no data
-abbrev pub data_of : Batch → List DataBatch
-data_of b = if is_control b.attributes then [] else data_batch b ∷ []
-
--- ---- an end marker settles a batch
-
-abbrev pub with_ending : Ending → DataBatch → DataBatch
-with_ending ending b = record b { ending = ending }
-
--- the batch at this place
-abbrev pub set_ending : Ending → ℕ → List DataBatch → List DataBatch
-set_ending ending place [] = []
-set_ending ending zero (b ∷ bs) = with_ending ending b ∷ bs
-set_ending ending (suc place) (b ∷ bs) = b ∷ set_ending ending place bs

@@ -10,9 +10,6 @@ pub mod steps
 pub mod Batches
 pub mod Heads
 pub mod Items
-pub mod Views
-pub mod Begins
-pub mod Indexed
 pub mod Indexes
 pub mod Ends
 pub mod Settling
@@ -20,7 +17,6 @@ pub mod Tables
 pub mod Faults
 pub mod Summaries
 pub mod NextMarker
-pub mod Pushes
 pub mod BatchesWhole
 pub mod Taken
 pub mod Earlier

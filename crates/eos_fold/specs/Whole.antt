@@ -2,7 +2,7 @@
 -- at 0.
 -- Sources: Kafka's documentation, Message Format ("Control Batches"), and KIP-98 (a transactional data batch is ended by
 -- the next end marker of its producer id).
-use Rattle.std.specs.Prelude.{◌≡◌, ◌↔◌, ℕ, ℤ, List, [], Option, Some, None}
+use Rattle.std.specs.Prelude.{◌≡◌, ◌↔◌, ℕ, ℤ, List}
 use Rattle.eos_base.specs.Members.{Has}
 use Rattle.eos_batch.specs.declared.batch.Batch.{Batch}
 use Rattle.eos_evidence.specs.declared.segment.Segment.{Segment}
@@ -11,7 +11,6 @@ use Rattle.eos_fold.specs.Settling.{data_in}
 use Rattle.eos_fold.specs.declared.close.Close.{Close}
 use Rattle.eos_fold.specs.Closes.{closes_of}
 use Rattle.eos_fold.specs.declared.stop.Stop.{Stop}
-use Rattle.eos_fold.specs.Sums.{NamedView}
 use Rattle.eos_fold.specs.Fronts.{IsFront}
 use Rattle.eos_batch.specs.Marker.{markers_of}
 use Rattle.eos_fold.specs.Parts.{PartLog, Rises, Ascends}
@@ -34,8 +33,3 @@ pub record IsPartOf (topic : List ℕ) (number end : ℤ) (segments : List Segme
   pub log : IsReadFrom topic number end segments batches part
   pub rises : Rises part.items
   pub ascends : Ascends part.closes
-
--- the segments of a run, or none
-abbrev pub segments_in : Option NamedView → List Segment
-segments_in None = []
-segments_in (Some run) = run.segments

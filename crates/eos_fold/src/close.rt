@@ -1,13 +1,13 @@
 //! How the transactions of a partition's log ended.
 
-ghost use Rattle.std.specs.Prelude.{◌≡◌, ◌++◌, IfOk, OnOk};
+ghost use Rattle.std.specs.Prelude.{◌≡◌, ◌++◌, OnOk};
 ghost use Rattle.std.specs.Option.{option_to_list};
-ghost use Rattle.eos_fold.specs.Closes.{close_cmp, close_in, closes_in};
+ghost use Rattle.eos_fold.specs.Closes.{close_cmp, close_in};
 ghost use Rattle.eos_fold.specs.Parts.{AreCloses};
 
-use crate::{DataHead, Ending, LogIndex};
+use crate::{DataHead, Ending};
 use eos_batch::Kind;
-use std::alloc::{AllocError, Global};
+use std::alloc::AllocError;
 
 /// A transactional data batch's producer id and epoch, and the epoch and kind of its next end marker: the one of its
 /// producer id with the least greater offset. The order is that of the fields, Commit before Abort.
@@ -73,18 +73,6 @@ pub fn push_close(closes: &mut Vec<Close>, head: &DataHead) -> Result<(), AllocE
     push_ended(closes, head.writer(), head.ending())
 }
 
-/// The closes of a log's data batches, in the order of the log.
-fn list_closes(alloc: Global, index: &LogIndex) -> Result<Vec<Close>, AllocError>
-    ensures { IfOk result (λ closes. closes.items ≡ closes_in index.now.batches) }
-{
-    let mut closes = Vec::new(alloc);
-    for i in 0..index.len() {
-        let (writer, ending) = index.transaction(i);
-        push_ended(&mut closes, writer, ending)?;
-    }
-    Ok(closes)
-}
-
 /// Each unequal close once, in ascending order.
 pub fn once(mut closes: Vec<Close>) -> Vec<Close>
     ensures { AreCloses closes.items result.items }
@@ -92,12 +80,4 @@ pub fn once(mut closes: Vec<Close>) -> Vec<Close>
     closes.sort_unstable();
     closes.dedup();
     closes
-}
-
-/// The unequal closes of a log's data batches, in ascending order.
-pub(crate) fn closes_of(alloc: Global, index: &LogIndex) -> Result<Vec<Close>, AllocError>
-    ensures { IfOk result (λ closes. AreCloses (closes_in index.now.batches) closes.items) }
-{
-    let closes = list_closes(alloc, index)?;
-    Ok(once(closes))
 }

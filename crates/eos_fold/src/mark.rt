@@ -2,9 +2,7 @@
 
 ghost use Rattle.std.specs.Prelude.{◌≡◌, Some};
 ghost use Rattle.eos_fold.specs.Ends.{mark_in};
-ghost use Rattle.eos_fold.specs.Settling.{ended};
 
-use crate::Ending;
 use eos_batch::Kind;
 use eos_touch::Touch;
 
@@ -29,15 +27,5 @@ pub(crate) fn mark_in(offset: u64, producer: i64, touch: Touch) -> Option<EndMar
             epoch,
             kind,
         }),
-    }
-}
-
-/// The ending that a marker gives.
-pub fn ended(mark: EndMark) -> Ending
-    ensures { result ≡ ended mark }
-{
-    Ending::Ended {
-        epoch: mark.epoch,
-        kind: mark.kind,
     }
 }

@@ -1,5 +1,8 @@
 //! Why the front of a partition's log ends.
 
+ghost use Rattle.std.specs.Prelude.{◌≡◌, ◌≢◌, true, false};
+ghost use Rattle.eos_fold.specs.declared.stop.Stop.TheVariants.{AtEnd};
+
 use eos_batch::BatchFault;
 
 /// Why a front ends.
@@ -17,4 +20,15 @@ pub enum Stop {
     Elsewhere {
         found: u64,
     },
+}
+
+/// Whether a front uses all bytes.
+pub fn is_at_end(stop: Stop) -> bool
+    ensures at_end { result ≡ true → stop ≡ AtEnd }
+    ensures other { result ≡ false → stop ≢ AtEnd }
+{
+    match stop {
+        Stop::AtEnd => true,
+        _ => false,
+    }
 }

@@ -2,10 +2,10 @@
 use Rattle.std.proofs.Common.{◌≡◌, ℕ, zero, suc, ◌+◌, ◌<◌, ◌≤◌, List, [], ◌∷◌, ◌++◌, length, drop, set, slice_index_or, Some, refl, sym, ap, ◌∙◌, ℤ, arith}
 use Rattle.std.specs.List.{slice_get}
 use Rattle.eos_fold.specs.declared.entry.Ending.{Ending}
-use Rattle.eos_fold.specs.Batches.{DataBatch, set_ending}
+use Rattle.eos_fold.specs.Batches.{DataBatch}
 use Rattle.eos_fold.specs.Heads.{DataHead, data_head}
 use Rattle.eos_fold.specs.Settling.{waiting_from, waiting_in}
-use Rattle.eos_fold.specs.steps.Endings.{set_endings}
+use Rattle.eos_fold.specs.steps.Endings.{set_ending, set_endings}
 use Rattle.eos_fold.proofs.FatesSet.{ending_next}
 use Rattle.std.proofs.lemmas.List.{drop_all}
 use Rattle.eos_kept.specs.Runs.{heads_of}

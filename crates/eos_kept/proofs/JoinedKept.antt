@@ -13,8 +13,7 @@ use Rattle.eos_fold.specs.declared.stop.Stop.{Stop}
 use Rattle.eos_fold.specs.declared.stop.Stop.TheVariants.{AtEnd, NoBatch, Elsewhere}
 use Rattle.eos_fold.specs.Fronts.{base_of, IsSegmentFront, GoesOn, IsFront}
 use Rattle.eos_fold.specs.Sums.{BeginsAt, AreChecked, is_checked}
-use Rattle.eos_fold.proofs.SegmentWalks.{markers_of-append}
-use Rattle.eos_fold.proofs.JoinedFronts.{front_goes, front_stops, other_name}
+use Rattle.eos_fold.proofs.JoinedFronts.{front_goes, front_stops, other_name, markers_of-append}
 use Rattle.eos_reading.specs.Epochs.{epoch_entries, epoch_behind, entries_behind}
 use Rattle.eos_reading.specs.Kept.{kept_in, kept_of}
 use Rattle.eos_reading.proofs.EpochLists.{entries_both}

@@ -9,13 +9,12 @@ use Rattle.eos_batch.specs.Attributes.{is_control}
 use Rattle.eos_fold.specs.Heads.{DataHead}
 use Rattle.eos_fold.specs.declared.ends.Ends.{Ends}
 use Rattle.eos_fold.specs.declared.fault.Fault.{Fault}
-use Rattle.eos_fold.specs.declared.batch_summary.BatchSummary.{BatchSummary}
 use Rattle.eos_fold.specs.Settling.{data_in, data_after, waiting_in}
 use Rattle.eos_fold.specs.Tables.{Table, ends_in, ends_at}
 use Rattle.eos_fold.specs.Taken.{IsReadyFor}
 use Rattle.eos_fold.specs.Faults.{IsSettled, IsLeastOf}
 use Rattle.eos_fold.specs.Earlier.{earlier}
-use Rattle.eos_fold.specs.Summaries.{IsSummary, SameEnds}
+use Rattle.eos_fold.specs.Summaries.{BatchSummary, IsSummary, SameEnds}
 use Rattle.eos_fold.specs.steps.Joins.{rest_of, Starts, IsTaking}
 use Rattle.eos_fold.proofs.Waiting.{all_below}
 use Rattle.eos_fold.proofs.TakingOver.{all_ends, all_places, all_items, all_faults}
@@ -65,7 +64,7 @@ can_join s t P H by h k same heads number ready small =
 pub begins_joining : (xs ys : List Batch) (s t : Run) (P : Table) (H : List DataHead) (f : Option Fault) → IsRunOf xs s → IsRunOf ys t → t.sequenced ≡ s.sequenced → ((id : ℤ) → SameEnds (ends_at s.producers id) (ends_at P id))
     → H ≡ s.heads.list → f ≡ earlier s.fault t.fault → Begins xs ys s.sequenced P H f (rest_of t.producers)
 begins_joining xs ys s t P H f h k e same heads fault =
-    let before : BatchSummary = record { sequenced = s.sequenced; index = record { batches = data_in xs; rest = []; segments = 0; room = 0 }; producers = P; fault = s.fault } in
+    let before : BatchSummary = record { sequenced = s.sequenced; batches = data_in xs; producers = P; fault = s.fault } in
     let p : IsSummary xs before = same_summary xs (summary_with (data_in xs) s) before (record { sequenced = refl; items = refl; ends = same; fault = refl }) h.known in
     record {
       ds = data_in xs;

@@ -13,3 +13,4 @@ pub mod RecordsLent
 pub mod RecordsSaid
 pub mod HeldRecords
 pub mod PartsMade
+pub mod PartsHeld

@@ -11,33 +11,28 @@ use Rattle.eos_evidence.specs.Topics.{is_internal}
 use Rattle.eos_touch.specs.declared.fault.PartitionFault.{PartitionFault}
 use Rattle.eos_touch.specs.declared.fault.PartitionFaultKind.{PartitionFaultKind}
 use Rattle.eos_touch.specs.declared.fault.PartitionFaultKind.TheVariants.{Pair}
-use Rattle.eos_touch.specs.Front.{ContinuesFrom}
+use Rattle.eos_touch.specs.Front.{records_in as counted_in, ContinuesFrom}
 use Rattle.eos_fold.specs.Heads.{DataHead}
 use Rattle.eos_fold.specs.declared.item.Item.{Item}
-use Rattle.eos_fold.specs.Batches.{DataBatch}
 use Rattle.eos_fold.specs.Items.{items_of}
 use Rattle.eos_fold.specs.declared.fault.Fault.{Fault}
 use Rattle.eos_fold.specs.Faults.{IsLeastOf}
 use Rattle.eos_fold.specs.Settling.{data_in}
-use Rattle.eos_fold.specs.Summaries.{IsSummary}
 use Rattle.eos_fold.specs.BatchesWhole.{StandsInWhole, IsLeastOpen}
 use Rattle.eos_fold.specs.declared.close.Close.{Close}
 use Rattle.eos_fold.specs.declared.stop.Stop.{Stop}
 use Rattle.eos_fold.specs.declared.stop.Stop.TheVariants.{AtEnd, Elsewhere}
-use Rattle.eos_fold.specs.declared.summary.Summary.{Summary}
 use Rattle.eos_fold.specs.Fronts.{IsFront}
 use Rattle.eos_fold.specs.Standing.{IsPartitionFault, AreOf}
 use Rattle.eos_fold.specs.Sums.{AreChecked}
 use Rattle.eos_fold.specs.Stops.{kind_at_stop}
 use Rattle.eos_fold.specs.Parts.{AreCloses}
-use Rattle.eos_fold.specs.steps.Whole.{IsWhole}
 use Rattle.eos_fold.proofs.ClosesRead.{closes_read}
 use Rattle.eos_fold.proofs.JoinedFronts.{other_name}
 use Rattle.eos_fold.proofs.LeastInWhole.{touch_answer, kind_answer, none_answer}
 use Rattle.eos_fold.proofs.RisingItems.{items_rise}
-use Rattle.eos_fold.proofs.SteadyFronts.{front_steady}
-use Rattle.eos_kept.specs.declared.run.Run.{Run}
-use Rattle.eos_kept.specs.Runs.{heads_of, summary_with, IsRunOf}
+use Rattle.eos_fold.proofs.SteadyFronts.{IsSteady, front_steady}
+use Rattle.eos_kept.specs.Runs.{heads_of, IsRunOf}
 use Rattle.eos_kept.specs.declared.front.Front.{Front}
 use Rattle.eos_kept.specs.declared.sizes.Sizes.{Sizes}
 use Rattle.eos_kept.specs.Kept.{KeptView, KeepsFront, IsKept}
@@ -64,39 +59,27 @@ use Rattle.eos_kept.proofs.ItemsWanted.{items_wanted}
 use Rattle.eos_kept.proofs.RecordsKept.{kept_records, kept_all, closes_told}
 use Rattle.eos_kept.proofs.RecordsSaid.{wanted_said}
 
--- ---- the least fault: the front's summary has the same
-
-abbrev summary_of : List Batch → Front → Summary
-summary_of bs f = record { begin = f.begin; next = f.next; stop = f.stop; markers = f.markers; run = summary_with (data_in bs) f.run }
-
-abbrev is_whole : (topic : List ℕ) (segments : List Segment) (bs : List Batch) (f : Front) → IsWholeFront segments bs f → IsChecked topic f → IsWhole topic segments (summary_of bs f)
-is_whole topic segments bs f h checked = record {
-  batches = bs;
-  begin = h.begin;
-  sequenced = checked;
-  front = h.front;
-  keeps = record { next = h.keeps.next; fits = h.keeps.fits; markers = h.keeps.markers; known = h.keeps.run.known };
-}
-
-run_of : (bs hs : List Batch) (run : Run) → IsRunOf bs run → IsSummary hs (summary_with (data_in bs) run) → IsRunOf hs run
-run_of bs hs run h s = record {
-  heads = h.heads ∙ ap heads_of s.items;
-  known = subst (λ (ds : List DataBatch). IsSummary hs (summary_with ds run)) s.items s;
-}
+-- ---- the least fault
 
 module _ (topic : List ℕ) (number end : ℤ) (segments : List Segment) (bs : List Batch) (f : Front) (h : IsWholeFront segments bs f) (checked : IsChecked topic f) where
+  steady : IsSteady 0 bs
+  steady = front_steady 0 segments bs f.stop h.front
+
   pub pair_told : (fault : Fault) (r : PartitionFault) → ((hs : List Batch) → IsRunOf hs f.run → IsLeastOf (StandsInWhole f.run.sequenced hs) (Some fault))
       → r.topic ≡ topic → r.partition ≡ number → r.offset ≡ fault.offset → r.kind ≡ Pair fault.kind fault.producer → IsPartitionFault topic number end bs f.stop (Some r)
-  pair_told fault r least = touch_answer topic number end segments (summary_of bs f) (is_whole topic segments bs f h checked) fault r (λ hs s. least hs (run_of bs hs f.run h.keeps.run s))
+  pair_told fault r least = touch_answer topic number end bs f.stop f.run.sequenced steady checked fault r (least bs h.keeps.run)
+
+  next_is : f.next ≡ counted_in bs
+  next_is = let n = h.keeps.next in let b = h.begin in omega (arith, n, b)
 
   pub kind_told : (left : Option ℤ) (kind : PartitionFaultKind) (r : PartitionFault) → ((hs : List Batch) → IsRunOf hs f.run → IsLeastOf (StandsInWhole f.run.sequenced hs) None)
       → ((hs : List Batch) → IsRunOf hs f.run → IsLeastOpen hs left) → Some kind ≡ kind_at_stop f.stop f.next end left
       → r.topic ≡ topic → r.partition ≡ number → r.offset ≡ f.next → r.kind ≡ kind → IsPartitionFault topic number end bs f.stop (Some r)
-  kind_told left kind r none least = kind_answer topic number end segments (summary_of bs f) (is_whole topic segments bs f h checked) left kind r (λ hs s. none hs (run_of bs hs f.run h.keeps.run s)) (λ hs s. least hs (run_of bs hs f.run h.keeps.run s))
+  kind_told left kind r none least = kind_answer topic number end bs f.stop f.run.sequenced steady checked f.next left kind r (none bs h.keeps.run) (least bs h.keeps.run) next_is
 
   pub none_told : (left : Option ℤ) → ((hs : List Batch) → IsRunOf hs f.run → IsLeastOf (StandsInWhole f.run.sequenced hs) None)
       → ((hs : List Batch) → IsRunOf hs f.run → IsLeastOpen hs left) → None ≡ kind_at_stop f.stop f.next end left → IsPartitionFault topic number end bs f.stop None
-  none_told left none least = none_answer topic number end segments (summary_of bs f) (is_whole topic segments bs f h checked) left (λ hs s. none hs (run_of bs hs f.run h.keeps.run s)) (λ hs s. least hs (run_of bs hs f.run h.keeps.run s))
+  none_told left none least = none_answer topic number end bs f.stop f.run.sequenced steady checked f.next left (none bs h.keeps.run) (least bs h.keeps.run) next_is
 
 -- ---- the front of all segments
 

@@ -13,10 +13,10 @@ use Rattle.eos_batch.specs.Marker.{marker_of, markers_of}
 use Rattle.eos_batch.specs.Segment.{Splits}
 use Rattle.eos_touch.specs.Front.{ContinuesFrom, IsNext}
 use Rattle.eos_touch.proofs.Continuity.{records_in-push, continues-push, abs_pos, fits_on}
-use Rattle.eos_fold.proofs.SegmentWalks.{markers_of-append}
 use Rattle.eos_fold.specs.declared.stop.Stop.TheVariants.{AtEnd, Elsewhere}
 use Rattle.eos_reading.specs.Heads.{HasHeads}
 use Rattle.eos_reading.specs.Kept.{kept_from, kept_in, kept_of}
+use Rattle.eos_fold.proofs.JoinedFronts.{markers_of-append}
 use Rattle.eos_kept.specs.Runs.{IsRunOf}
 use Rattle.eos_kept.specs.declared.front.Front.{Front}
 use Rattle.eos_kept.specs.Passing.{IsRealHead, GoesAlong, data_count}

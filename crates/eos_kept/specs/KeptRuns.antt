@@ -1,5 +1,5 @@
 -- What is kept of a list of segments of one partition, by what is wanted of their log.
-use Rattle.std.specs.Prelude.{ℕ, List, All, ⊤}
+use Rattle.std.specs.Prelude.{◌≡◌, ℕ, List, [], All, Option, Some, None, ⊤}
 use Rattle.eos_claims.specs.Headers.{claim_of}
 use Rattle.eos_evidence.specs.declared.segment.Segment.{Segment}
 use Rattle.eos_reading.specs.Outputs.{kept_output, claim_kept}
@@ -40,3 +40,19 @@ SameKeptRun (Presence a) (Presence b) = SameKept a b
 SameKeptRun (Claims a) (Claims b) = SameKept a b
 SameKeptRun (Texts a) (Texts b) = SameKept a b
 SameKeptRun a b = ⊥
+
+-- ---- or of none
+
+-- what is kept of segments, or of none
+abbrev pub AreKeptRun : List (List ℕ) → List Segment → Option KeptRun → Type 0
+AreKeptRun topics segments None = segments ≡ []
+AreKeptRun topics segments (Some run) = IsKeptRun topics segments run
+
+-- what was asked for, or nothing
+abbrev pub IsWantedBy : Wanted → Option KeptRun → Type 0
+IsWantedBy w None = ⊤
+IsWantedBy w (Some run) = wanted_by run ≡ w
+
+abbrev pub HaveClaims : List (List ℕ) → Option KeptRun → Type 0
+HaveClaims topics None = ⊤
+HaveClaims topics (Some run) = HasClaims topics run

@@ -8,5 +8,4 @@ pub mod Looks
 pub mod Parts
 pub mod Records
 pub mod KeptRuns
-pub mod Forms
 pub mod Faults

@@ -1,16 +1,15 @@
 -- What a run of a partition's batches says, kept without their records: of each data batch its head, of each producer id the
 -- ends of its touches, and the least fault that the run settles. It is the summary of the same batches, less the records.
-use Rattle.std.specs.Prelude.{◌≡◌, ℕ, ℤ, List, [], map}
+use Rattle.std.specs.Prelude.{◌≡◌, ℕ, ℤ, List, map}
 use Rattle.eos_batch.specs.declared.batch.Batch.{Batch}
 use Rattle.eos_batch.specs.declared.head.BatchHead.{BatchHead}
 use Rattle.eos_batch.specs.Heads.{head_of}
 use Rattle.eos_batch.specs.Rules.{IsProducerRight}
 use Rattle.eos_fold.specs.Batches.{DataBatch}
 use Rattle.eos_fold.specs.Heads.{DataHead, data_head}
-use Rattle.eos_fold.specs.declared.batch_summary.BatchSummary.{BatchSummary}
 use Rattle.eos_fold.specs.Settling.{data_in}
 use Rattle.eos_fold.specs.Tables.{ends_at}
-use Rattle.eos_fold.specs.Summaries.{IsSummary, SameEnds}
+use Rattle.eos_fold.specs.Summaries.{BatchSummary, IsSummary, SameEnds}
 use Rattle.eos_kept.specs.declared.run.Run.{Run}
 
 abbrev pub heads_of : List DataBatch → List DataHead
@@ -20,7 +19,7 @@ heads_of ds = map data_head ds
 abbrev pub summary_with : List DataBatch → Run → BatchSummary
 summary_with ds run = record {
   sequenced = run.sequenced;
-  index = record { batches = ds; rest = []; segments = 0; room = 0 };
+  batches = ds;
   producers = run.producers;
   fault = run.fault;
 }

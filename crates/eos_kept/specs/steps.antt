@@ -6,3 +6,4 @@ pub mod Taking
 pub mod Closes
 pub mod Counts
 pub mod Fronts
+pub mod Held

@@ -1,6 +1,5 @@
 //! What is kept of a partition's segments, taken apart.
 
-ghost use Rattle.std.specs.Prelude.{◌≡◌};
 ghost use Rattle.eos_kept.specs.steps.Fronts.{AreEach, IsApart};
 
 use crate::{Front, Kept, Sizes};

@@ -6,14 +6,14 @@ ghost use Rattle.eos_fold.specs.Heads.{DataHead};
 ghost use Rattle.eos_kept.specs.Items.{items_under, Fits};
 ghost use Rattle.eos_kept.specs.Records.{records_in, ReadBack, SayClaims};
 
-use crate::item::KeptItem;
+use crate::item::ItemRef;
 use crate::records::Records;
 use eos_fold::DataHead;
 use std::marker::Model;
 
 /// The data records that are left, in order, which contracts see as a list.
 #[derive(Drop)]
-pub struct KeptCursor<'a> {
+pub struct Cursor<'a> {
     heads: &'a [DataHead],
     records: &'a Records,
     /// The number of the next record's batch, or of one before it that has ended.
@@ -24,7 +24,7 @@ pub struct KeptCursor<'a> {
     passed: usize,
 }
 
-impl<'a> Model for KeptCursor<'a> {
+impl<'a> Model for Cursor<'a> {
     ghost use Rattle.std.specs.Prelude.{List, All, drop};
     ghost use Rattle.eos_fold.specs.declared.item.Item.{Item};
     ghost use Rattle.eos_kept.specs.Items.{items_under, Fits};
@@ -53,15 +53,15 @@ fn skip_ended(heads: &[DataHead], head: usize, place: usize) -> (usize, usize)
     (len, 0)
 }
 
-impl<'a> KeptCursor<'a> {
+impl<'a> Cursor<'a> {
     /// From the first record on.
-    pub(crate) fn new(heads: &'a [DataHead], records: &'a Records) -> KeptCursor<'a>
+    pub(crate) fn new(heads: &'a [DataHead], records: &'a Records) -> Cursor<'a>
         requires fits { All Fits heads.now }
         requires claims { ReadBack records.now }
         requires said { SayClaims (records_in records.now) }
         ensures { result ≡ items_under heads.now 0 (records_in records.now) }
     {
-        KeptCursor {
+        Cursor {
             heads,
             records,
             head: 0,
@@ -71,7 +71,7 @@ impl<'a> KeptCursor<'a> {
     }
 
     /// The next record, lent, and None after the last one.
-    pub fn next(&mut self) -> Option<KeptItem<'a>>
+    pub fn next(&mut self) -> Option<ItemRef<'a>>
         ensures none { IfNone result ((self.old ≡ []) × (self.new ≡ [])) }
         ensures some { IfSome result (λ item. self.old ≡ item ∷ self.new) }
     {
@@ -86,6 +86,6 @@ impl<'a> KeptCursor<'a> {
         }
         self.place += 1;
         self.passed += 1;
-        Some(KeptItem::new(&heads[head], place, records.view(passed)))
+        Some(ItemRef::new(&heads[head], place, records.view(passed)))
     }
 }

@@ -1,10 +1,10 @@
 //! The heads of a run's data batches.
 
-ghost use Rattle.std.specs.Prelude.{◌≡◌, ◌+◌, ◌<◌, ◌≤◌, ◌^◌, ◌∷◌, [], ◌++◌, ℕ, ℤ, List, map, length, All, IsSome, OnOk, slice_get, Some, false};
+ghost use Rattle.std.specs.Prelude.{◌≡◌, ◌+◌, ◌<◌, ◌≤◌, ◌^◌, ◌∷◌, [], ◌++◌, ℕ, ℤ, List, map, length, All, OnOk, Some, false};
 ghost use Rattle.eos_batch.specs.declared.batch.Batch.{Batch};
 ghost use Rattle.eos_batch.specs.Heads.{head_of};
-ghost use Rattle.eos_fold.specs.Batches.{DataBatch, set_ending};
-ghost use Rattle.eos_fold.specs.steps.Endings.{set_endings};
+ghost use Rattle.eos_fold.specs.Batches.{DataBatch};
+ghost use Rattle.eos_fold.specs.steps.Endings.{set_ending, set_endings};
 ghost use Rattle.eos_fold.specs.Settling.{data_in, ended, settled, waiting_in};
 ghost use Rattle.eos_fold.specs.steps.Summaries.{only};
 ghost use Rattle.eos_kept.specs.Runs.{heads_of};

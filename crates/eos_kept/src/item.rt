@@ -1,11 +1,13 @@
 //! A data record of a partition's log, with what is kept of it.
 
-ghost use Rattle.std.specs.Prelude.{◌≡◌, ◌<◌, ◌≤◌, option_map, IfOk};
+ghost use Rattle.std.specs.Prelude.{◌≡◌, ◌<◌, option_map, IfOk};
 ghost use Rattle.eos_claims.specs.Headers.{claim_of};
 ghost use Rattle.eos_claims.specs.Slots.{plain_claim};
 ghost use Rattle.eos_kept.specs.Items.{item_at, Fits};
+ghost use Rattle.eos_kept.specs.Looks.{IsLook};
 ghost use Rattle.eos_kept.specs.Records.{SaysClaim};
 
+use crate::Look;
 use crate::headers::headers_of;
 use bytes::Bytes;
 use eos_claims::ClaimRef;
@@ -14,16 +16,17 @@ use eos_reading::KeptRecord;
 use std::alloc::{AllocError, Global};
 use std::marker::Model;
 
-/// A data record with what is kept of it, lent, which contracts see as an `Item` that has no more than that.
+/// A data record with what is kept of it, lent, which contracts see as an `Item` that has no more than that (Message Format,
+/// "Record").
 #[derive(Drop)]
-pub struct KeptItem<'a> {
+pub struct ItemRef<'a> {
     offset: u64,
     fate: Fate,
     writer: Option<(i64, i16)>,
     kept: KeptRecord<'a>,
 }
 
-impl<'a> Model for KeptItem<'a> {
+impl<'a> Model for ItemRef<'a> {
     ghost use Rattle.eos_fold.specs.declared.item.Item.{Item};
     ghost use Rattle.eos_kept.specs.Records.{SaysClaim};
 
@@ -44,15 +47,15 @@ fn copy_of(alloc: Global, text: Option<&[u8]>) -> Result<Option<Bytes>, AllocErr
     }
 }
 
-impl<'a> KeptItem<'a> {
+impl<'a> ItemRef<'a> {
     /// The record at this place of a batch with this head.
-    pub(crate) fn new(head: &DataHead, place: usize, kept: KeptRecord<'a>) -> KeptItem<'a>
+    pub(crate) fn new(head: &DataHead, place: usize, kept: KeptRecord<'a>) -> ItemRef<'a>
         requires fits { Fits head.now }
         requires inside { place < head.now.count }
         requires said { SaysClaim kept }
         ensures { result ≡ item_at head.now place kept.entry }
     {
-        KeptItem {
+        ItemRef {
             offset: head.offset() + place as u64,
             fate: head.fate(),
             writer: head.writer(),
@@ -60,19 +63,21 @@ impl<'a> KeptItem<'a> {
         }
     }
 
+    /// Its offset in the partition's log.
     pub fn offset(&self) -> u64
         ensures { result ≡ self.now.offset }
     {
         self.offset
     }
 
+    /// What became of it, as a reader of committed records sees it (KIP-98, `read_committed`).
     pub fn fate(&self) -> Fate
         ensures { result ≡ self.now.fate }
     {
         self.fate
     }
 
-    /// The producer id and epoch of transactional data.
+    /// The producer id and epoch of transactional data (Message Format, "Record Batch").
     pub fn writer(&self) -> Option<(i64, i16)>
         ensures { result ≡ self.now.writer }
     {
@@ -94,11 +99,24 @@ impl<'a> KeptItem<'a> {
     }
 
     /// The claim in its headers, where it is kept.
-    pub fn claim(&self) -> Option<ClaimRef<'a>>
-        ensures { option_map plain_claim result ≡ claim_of self.now.headers }
+    pub fn into_claim(self) -> Option<ClaimRef<'a>>
+        ensures { option_map plain_claim result ≡ claim_of self.entry.headers }
     {
         self.kept.claim()
     }
+
+    /// The same without its key and value.
+    pub fn into_look(self) -> Look<'a>
+        ensures { IsLook self.entry result }
+    {
+        Look {
+            offset: self.offset,
+            fate: self.fate,
+            writer: self.writer,
+            claim: self.kept.claim(),
+        }
+    }
+
     /// The same as a value of its own, whose headers are those that say its claim.
     ///
     /// # Errors

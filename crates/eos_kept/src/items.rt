@@ -7,8 +7,8 @@ ghost use Rattle.eos_kept.specs.Records.{records_in, ReadBack, SayClaims};
 ghost use Rattle.eos_kept.specs.steps.Counts.{count_in};
 
 use crate::batches::KeptBatches;
-use crate::cursor::KeptCursor;
-use crate::item::KeptItem;
+use crate::cursor::Cursor;
+use crate::item::ItemRef;
 use crate::records::Records;
 use eos_fold::{DataHead, Item};
 use std::alloc::{AllocError, Global};
@@ -16,12 +16,12 @@ use std::marker::Model;
 
 /// Data records in the order of their offsets, with what is kept of them, which contracts see as a list.
 #[derive(Drop)]
-pub struct KeptItems {
+pub struct Items {
     heads: Vec<DataHead>,
     records: Records,
 }
 
-impl Model for KeptItems {
+impl Model for Items {
     ghost use Rattle.std.specs.Prelude.{◌≡◌, List, All, length};
     ghost use Rattle.eos_fold.specs.declared.item.Item.{Item};
     ghost use Rattle.eos_kept.specs.Items.{items_under, Fits};
@@ -52,16 +52,16 @@ fn find_head(heads: &[DataHead], place: usize) -> (usize, usize)
     unreachable!()
 }
 
-impl KeptItems {
+impl Items {
     /// These records under these heads.
-    pub(crate) fn new(heads: Vec<DataHead>, records: Records) -> KeptItems
+    pub(crate) fn new(heads: Vec<DataHead>, records: Records) -> Items
         requires fits { All Fits heads.items }
         requires claims { ReadBack records }
         requires said { SayClaims (records_in records) }
         requires whole { length (items_under heads.items 0 (records_in records)) ≡ length (records_in records) }
         ensures { result ≡ items_under heads.items 0 (records_in records) }
     {
-        KeptItems { heads, records }
+        Items { heads, records }
     }
 
     /// The number of records.
@@ -79,10 +79,10 @@ impl KeptItems {
     }
 
     /// Over the records in order, each lent, without searching.
-    pub fn cursor(&self) -> KeptCursor<'_>
+    pub fn cursor(&self) -> Cursor<'_>
         ensures { result ≡ self.now }
     {
-        KeptCursor::new(self.heads.as_slice(), &self.records)
+        Cursor::new(self.heads.as_slice(), &self.records)
     }
 
     /// Over the records batch by batch.
@@ -93,12 +93,12 @@ impl KeptItems {
     }
 
     /// The record at this place, lent. It takes no memory, and looks through the heads of the batches before it.
-    pub fn view(&self, i: usize) -> KeptItem<'_>
+    pub fn view(&self, i: usize) -> ItemRef<'_>
         requires { i < length self.now }
         ensures { slice_get self.now i ≡ Some result }
     {
         let (head, place) = find_head(self.heads.as_slice(), i);
-        KeptItem::new(&self.heads[head], place, self.records.view(i))
+        ItemRef::new(&self.heads[head], place, self.records.view(i))
     }
 
     /// The record at this place, as a value of its own.

@@ -2,9 +2,6 @@
 //! data record what a reading keeps. Of a run of batches it is worked out batch by batch or joined from its parts; of a
 //! partition it is made of its segments'. Batches, segments and bytes are counted.
 //!
-//! The phases read a log in one of two forms that say the same: over all bytes of its segments, or over what is kept. Who
-//! shows what stands around a fault asks for the first; a verdict needs the second alone.
-//!
 //! A segment is read chunk by chunk; what was taken of a chunk is forgotten. In memory a data record costs what is kept of
 //! it, a data batch 32 bytes (its head), and 8 more as long as it is transactional and waits for its end marker, a producer
 //! id some 150, and an end marker 24. While a segment is read, a chunk's heads and the bytes of a batch that isn't whole yet
@@ -19,13 +16,11 @@ mod fold;
 mod front;
 mod headers;
 mod heads;
+mod held;
 mod item;
 mod items;
 mod kept_run;
 mod kept_whole;
-mod log_item;
-mod log_items;
-mod log_part;
 mod logs;
 mod part;
 mod pass;
@@ -35,22 +30,22 @@ mod segment;
 mod sizes;
 mod summary;
 mod taking;
+mod told;
 mod whole;
 
 pub use batches::{KeptBatch, KeptBatches, Look};
-pub use cursor::KeptCursor;
+pub use cursor::Cursor;
 pub use eos_fold::{DataHead, EndMark, Fault};
 pub use front::Front;
-pub use item::KeptItem;
-pub use items::KeptItems;
+pub use held::told_in;
+pub use item::ItemRef;
+pub use items::Items;
 pub use kept_run::{Asked, KeptRun};
-pub use log_item::ItemRef;
-pub use log_items::{Cursor, Items};
-pub use log_part::Part;
 pub use logs::Logs;
-pub use part::{KeptPart, Told};
+pub use part::{Part, Told};
 pub use pass::data_records;
 pub use run::Run;
 pub use segment::keep_segment;
 pub use sizes::Sizes;
 pub use summary::Kept;
+pub use told::told_of;

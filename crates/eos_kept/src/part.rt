@@ -12,7 +12,7 @@ ghost use Rattle.eos_reading.specs.declared.wanted.Wanted.TheVariants.{Presence,
 
 use crate::apart::apart;
 use crate::close::closes_of;
-use crate::items::KeptItems;
+use crate::items::Items;
 use crate::kept_whole::{least_fault, of_all};
 use crate::records::Records;
 use crate::{Front, Kept, Sizes};
@@ -28,14 +28,14 @@ use std::marker::Model;
 
 /// What is wanted of a partition's log.
 #[derive(Drop)]
-pub struct KeptPart {
+pub struct Part {
     end: End,
-    items: KeptItems,
+    items: Items,
     closes: Vec<Close>,
     markers: Vec<Marker>,
 }
 
-impl Model for KeptPart {
+impl Model for Part {
     ghost use Rattle.std.specs.Prelude.{[]};
     ghost use Rattle.eos_fold.specs.Parts.{PartLog, Rises, Ascends};
 
@@ -49,7 +49,7 @@ impl Model for KeptPart {
 /// What is wanted of a partition's log, and what is said of its bytes, which are gone.
 #[derive(Drop)]
 pub struct Told {
-    pub part: KeptPart,
+    pub part: Part,
     /// The least fault of the bytes.
     pub fault: Option<PartitionFault>,
     /// The number of batches of the front of the segments, control batches too.
@@ -84,9 +84,9 @@ fn made(
     } = front;
     let heads = run.into_heads();
     let closes = closes_of(alloc, heads.as_slice())?;
-    let part = KeptPart {
+    let part = Part {
         end,
-        items: KeptItems::new(heads, kept),
+        items: Items::new(heads, kept),
         closes,
         markers,
     };
@@ -99,7 +99,7 @@ fn made(
     })
 }
 
-impl KeptPart {
+impl Part {
     /// The log of a partition that is declared to end here, of whose records it is kept that they are there. What is kept counts as
     /// that of the whole list of its segments.
     ///
@@ -172,7 +172,7 @@ impl KeptPart {
     }
 
     /// The data records, by offset.
-    pub fn items(&self) -> &KeptItems
+    pub fn items(&self) -> &Items
         ensures items { result.now ≡ self.now.items }
         ensures rise { Rises self.now.items }
     {

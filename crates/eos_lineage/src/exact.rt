@@ -20,7 +20,7 @@ use crate::sorting::sorted;
 use eos_base::{Workers, is_below};
 use eos_commits::is_visible;
 use eos_fold::Fate;
-use eos_kept::{KeptBatch, KeptBatches, Part};
+use eos_kept::{KeptBatch, Part};
 use std::alloc::Global;
 use std::thread;
 use std::thread::Threads;
@@ -123,34 +123,14 @@ fn take_batch<'k>(
     Some(left)
 }
 
-/// Takes the visible records of batches that are below the offset.
-fn take_batches<'k>(
-    before: Left<'k>,
-    place: usize,
-    committed: &i64,
-    mut batches: KeptBatches<'_>,
-) -> Option<Left<'k>>
-    ensures { (ns : List PartitionName) (n : PartitionName) → place ≡ place_among ns n → IfSome result (λ after. HasTaken ns (plain_left before.entry) (plain_left after) (flat_map (below_at committed.now n) batches.entry)) }
-{
-    let mut left = before;
-    while let Some(batch) = batches.next() {
-        left = take_batch(left, place, committed, &batch)?;
-    }
-    Some(left)
-}
-
 /// Takes the visible records of a log that are below the offset.
 fn take_log<'k>(before: Left<'k>, place: usize, committed: &i64, part: &Part) -> Option<Left<'k>>
     ensures { (ns : List PartitionName) (n : PartitionName) → place ≡ place_among ns n → IfSome result (λ after. HasTaken ns (plain_left before.entry) (plain_left after) (flat_map (below_at committed.now n) part.now.items)) }
 {
-    let items = part.items();
-    if let Some(batches) = items.batches() {
-        return take_batches(before, place, committed, batches);
-    }
     let mut left = before;
-    let mut records = items.cursor();
-    while let Some(item) = records.next() {
-        left = take_record(left, place, committed, item.fate(), item.offset())?;
+    let mut batches = part.items().batches();
+    while let Some(batch) = batches.next() {
+        left = take_batch(left, place, committed, &batch)?;
     }
     Some(left)
 }

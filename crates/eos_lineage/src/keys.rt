@@ -18,7 +18,7 @@ use crate::passes::PassMarks;
 use eos_base::{PartitionName, Workers};
 use eos_claims::{ClaimRef, SourceRef};
 use eos_commits::NameMarks;
-use eos_kept::{KeptBatch, KeptBatches, Look};
+use eos_kept::{KeptBatch, Look};
 use std::alloc::Global;
 use std::thread;
 use std::thread::Threads;
@@ -141,22 +141,6 @@ fn take_batch<'a>(
     Some(())
 }
 
-/// Takes the claims of batches.
-fn take_batches<'a>(
-    keys: &mut Keys,
-    books: &Books<'_, '_, '_, '_, '_, 'a>,
-    marks: &mut Marks,
-    name: &'a PartitionName,
-    mut batches: KeptBatches<'a>,
-) -> Option<()>
-    ensures { (a : Application) → AreBooks a books.now → IfSome result (λ done. HasKeyed a books.now.names.now (plain_keys keys.old) (plain_keys keys.new) (flat_map (claim_at name.now) batches.entry)) }
-{
-    while let Some(batch) = batches.next() {
-        take_batch(keys, books, marks, name, &batch)?;
-    }
-    Some(())
-}
-
 /// Takes the claims of a partition.
 fn take_part<'a>(
     keys: &mut Keys,
@@ -169,13 +153,9 @@ fn take_part<'a>(
         name: NameMarks::new(),
         pass: PassMarks::new(),
     };
-    let items = output.part.items();
-    if let Some(batches) = items.batches() {
-        return take_batches(keys, books, &mut marks, output.name, batches);
-    }
-    let mut records = items.cursor();
-    while let Some(item) = records.next() {
-        take_look(keys, books, &mut marks, output.name, &item.into_look())?;
+    let mut batches = output.part.items().batches();
+    while let Some(batch) = batches.next() {
+        take_batch(keys, books, &mut marks, output.name, &batch)?;
     }
     Some(())
 }

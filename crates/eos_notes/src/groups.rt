@@ -15,7 +15,7 @@ use eos_base::{PartitionName, is_below, sum};
 use eos_commits::{CommitRef, TopicSet, is_visible};
 use eos_evidence::GroupId;
 use eos_fold::Fate;
-use eos_kept::{KeptBatch, KeptBatches, Part};
+use eos_kept::{KeptBatch, Part};
 use std::alloc::AllocError;
 
 /// So many visible records, and so many of them below a group's committed offsets.
@@ -164,35 +164,15 @@ fn count_batch(before: Count, batch: &KeptBatch<'_>, committed: i64) -> Result<C
     Ok(count)
 }
 
-/// With the records of batches.
-fn count_batches(
-    before: Count,
-    mut batches: KeptBatches<'_>,
-    committed: i64,
-) -> Result<Count, AllocError>
-    ensures inputs { IfOk result (λ c. c.inputs ≡ before.inputs + count_visible batches.entry) }
-    ensures below { IfOk result (λ c. c.below ≡ before.below + count_below committed batches.entry) }
-{
-    let mut count = before;
-    while let Some(batch) = batches.next() {
-        count = count_batch(count, &batch, committed)?;
-    }
-    Ok(count)
-}
-
 /// With the records of a partition.
 fn count_part(before: Count, part: &Part, committed: i64) -> Result<Count, AllocError>
     ensures inputs { IfOk result (λ c. c.inputs ≡ before.inputs + count_visible part.now.items) }
     ensures below { IfOk result (λ c. c.below ≡ before.below + count_below committed part.now.items) }
 {
-    let items = part.items();
-    if let Some(batches) = items.batches() {
-        return count_batches(before, batches, committed);
-    }
     let mut count = before;
-    let mut records = items.cursor();
-    while let Some(item) = records.next() {
-        count = counted(count, item.fate(), item.offset(), committed)?;
+    let mut batches = part.items().batches();
+    while let Some(batch) = batches.next() {
+        count = count_batch(count, &batch, committed)?;
     }
     Ok(count)
 }

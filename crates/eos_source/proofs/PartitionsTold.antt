@@ -1,28 +1,26 @@
 -- What is told of partitions, one by one.
-use Rattle.std.proofs.Common.{◌≡◌, ℕ, ℤ, zero, suc, ◌+◌, ◌<◌, List, [], ◌∷◌, ◌++◌, length, map, take, drop, get_or, Option, Some, None, Result, Ok, Err, refl, sym, ap, subst, ◌∙◌, arith}
-use Rattle.std.specs.Prelude.{IfOk}
+use Rattle.std.proofs.Common.{◌≡◌, ℕ, zero, suc, ◌+◌, ◌<◌, List, [], ◌∷◌, ◌++◌, length, map, take, drop, get_or, Option, Some, None, refl, sym, ap, subst, ◌∙◌, arith}
 use Rattle.std.proofs.lemmas.List.{length-append, map-append}
-use Rattle.eos_batch.specs.declared.record.Record.{Record}
 use Rattle.eos_evidence.specs.declared.application.App.{App}
-use Rattle.eos_evidence.specs.declared.ends.End.{End}
 use Rattle.eos_evidence.specs.declared.partition.Partition.{Partition}
 use Rattle.eos_evidence.specs.declared.segment.Segment.{Segment}
 use Rattle.eos_evidence.specs.Evidence.{IsPartition, segments_of}
 use Rattle.eos_fold.specs.Standing.{AreOf}
 use Rattle.eos_kept.specs.declared.part.Told.{Told}
 use Rattle.eos_kept.specs.declared.kept_run.KeptRun.{KeptRun}
-use Rattle.eos_kept.specs.Kept.{KeptView}
-use Rattle.eos_kept.specs.Parts.{AreKept, IsTold, IsMade}
-use Rattle.eos_reading.specs.declared.wanted.Wanted.{Wanted}
+use Rattle.eos_kept.specs.Parts.{IsTold}
 use Rattle.eos_reading.specs.Wanted.{wanted_of}
 use Rattle.eos_source.specs.declared.logs.KeptLogs.{KeptLogs}
 use Rattle.eos_source.specs.Logs.{AreColumns, tally_of}
 use Rattle.eos_source.specs.Said.{Said, Known}
 use Rattle.eos_source.specs.Shapes.{ArePieces}
 use Rattle.eos_source.specs.steps.Partitions.{IsToldOf}
-use Rattle.eos_source.specs.steps.Runs.{Asking, asking, AreFrom, AreRead, AreKeptRun, IsWantedBy, HaveClaims}
+use Rattle.eos_kept.specs.KeptRuns.{AreKeptRun, IsWantedBy, HaveClaims}
+use Rattle.eos_kept.specs.steps.Held.{Asking}
+use Rattle.eos_source.specs.steps.Runs.{asking, AreFrom, AreRead}
 use Rattle.eos_source.proofs.PiecesJoined.{from_none}
-use Rattle.eos_source.proofs.ShapesFilled.{of_names, are_of}
+use Rattle.eos_kept.proofs.PartsHeld.{are_of}
+use Rattle.eos_source.proofs.ShapesFilled.{of_names}
 
 -- ---- one partition
 
@@ -58,19 +56,6 @@ told_of known said topics apps piece shape run told p h t =
       is = λ segments pieces. t segments (were_read known said topics apps shape.end.topic piece shape.segments run h segments pieces)
           (of_names said shape.end.topic shape.end.partition piece shape.segments segments pieces (are_of shape p));
     }
-
-pub same_end : (a b : End) → a.topic ≡ b.topic → a.partition ≡ b.partition → a.end ≡ b.end → a ≡ b
-same_end a b topic partition end =
-    ap (λ (x : List ℕ). record { topic = x; partition = a.partition; end = a.end }) topic
-    ∙ (ap (λ (x : ℤ). record { topic = b.topic; partition = x; end = a.end }) partition
-    ∙ ap (λ (x : ℤ). record { topic = b.topic; partition = b.partition; end = x }) end)
-
--- what is made of what is kept of segments, of whichever was wanted
-pub made_told : {K E : Type 0} (w asked : Wanted) (keep : ℕ → Record → K) (end : End) (topics : List (List ℕ)) (run : Option KeptRun) (view : Option (KeptView K)) (r : Result Told E) → asked ≡ w
-    → ((segments : List Segment) → AreKeptRun topics segments run → AreKept keep segments view) → IfOk r (IsMade w keep end view)
-    → IfOk r (λ told. (segments : List Segment) → AreKeptRun topics segments run → AreOf end.topic end.partition segments → IsTold asked end segments told)
-made_told w asked keep end topics run view (Ok told) e h made = λ segments kept of. subst (λ (x : Wanted). IsTold x end segments told) (sym e) (made segments (h segments kept) of)
-made_told w asked keep end topics run view (Err why) e h made = tt
 
 -- ---- the columns of all that is told
 

@@ -1,5 +1,5 @@
 -- What is asked of a piece that was opened: of a log that was read to its end, or of a fold.
-use Rattle.std.proofs.Common.{◌≡◌, ℕ, true, not, ◌≤◌, List, [], ◌∷◌, ◌++◌, length, Option, Some, None, refl, sym, ap, subst, ◌∙◌, append-nil}
+use Rattle.std.proofs.Common.{◌≡◌, ℕ, true, not, ◌≤◌, List, [], ◌∷◌, length, Option, Some, None, refl, sym, ap, subst, ◌∙◌}
 use Rattle.std.specs.Prelude.{IfSome}
 use Rattle.std.specs.Io.KnownBytes.{Consumes, IsAtEnd}
 use Rattle.eos_evidence.specs.declared.segment.Segment.{Segment}
@@ -8,18 +8,14 @@ use Rattle.eos_fold_file.specs.declared.file.FoldFile.{FoldFile}
 use Rattle.eos_fold_file.specs.Folds.{IsFoldOf}
 use Rattle.eos_fold_file.specs.Legal.{IsLegal}
 use Rattle.eos_kept.specs.declared.kept_run.KeptRun.{KeptRun}
-use Rattle.eos_kept.specs.declared.kept_run.KeptRun.TheVariants.{Presence, Claims, Texts}
-use Rattle.eos_kept.specs.KeptRuns.{IsKeptRun, wanted_by, front_of, HasClaims}
+use Rattle.eos_kept.specs.KeptRuns.{IsKeptRun, wanted_by, HasClaims}
+use Rattle.eos_kept.specs.steps.Held.{Asking, IsAsked}
 use Rattle.eos_source.specs.declared.source.Piece.TheVariants as pieces
+use Rattle.eos_kept.proofs.PartsHeld.{all_of, checked_so}
 use Rattle.eos_source.specs.Said.{Said, Log, Fold, Known, WillSay}
-use Rattle.eos_source.specs.steps.Runs.{Asking, IsAsked, IsTaken}
+use Rattle.eos_source.specs.steps.Runs.{IsTaken}
 
 -- ---- a log
-
--- all of these bytes were read
-all_of : (whole : List ℕ) (left : Option (List ℕ)) (bytes : List ℕ) → Consumes (Some whole) left bytes → IsAtEnd left → bytes ≡ whole
-all_of whole None bytes c e = absurd c
-all_of whole (Some ys) bytes c e = sym (c ∙ (ap (λ (l : List ℕ). bytes ++ l) e ∙ append-nil bytes))
 
 module _ {R : Type 0} (left : R → Option (List ℕ)) where
   -- what was known is what was read
@@ -33,12 +29,6 @@ module _ {R : Type 0} (left : R → Option (List ℕ)) where
   fold_known None fold h = tt
   fold_known (Some (Log whole)) fold h = absurd h
   fold_known (Some (Fold other)) fold h = ap Fold h
-
-  -- whether sequences are checked is known of the first segment
-  checked_so : (topics : List (List ℕ)) (s : Segment) (ss : List Segment) (run : KeptRun) → IsKeptRun topics (s ∷ ss) run → (front_of run).run.sequenced ≡ not (is_internal s.topic)
-  checked_so topics s ss (Presence kept) k = k.front.sequenced
-  checked_so topics s ss (Claims kept) k = k.front.sequenced
-  checked_so topics s ss (Texts kept) k = k.front.sequenced
 
   pub log_read : (known : Known) (a : Asking) (name : Segment) (reader : R) (new : Option (List ℕ)) (run : KeptRun) (bytes : List ℕ) → a.topic ≡ name.topic
       → IfSome known.said (WillSay left (pieces.Log reader)) → Consumes (left reader) new bytes → length bytes ≤ 0x4000_0000 → IsAtEnd new → wanted_by run ≡ a.wanted → HasClaims a.topics run

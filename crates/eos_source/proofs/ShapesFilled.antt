@@ -6,16 +6,14 @@ use Rattle.std.specs.declared.cmp.Ordering.TheVariants.{Less}
 use Rattle.std.specs.List.{AllByRecursion}
 use Rattle.std.specs.List.Sorted.{IsStrictlySortedBy}
 use Rattle.std.proofs.lemmas.List.{length-append}
-use Rattle.std.proofs.lemmas.Bool.{and_parts}
-use Rattle.std.proofs.lemmas.Bool.Decides.{Decides-int_eq}
-use Rattle.std.proofs.lemmas.Slice.Eq.{bytes_eq-Decides}
-use Rattle.std.proofs.lemmas.List.Elements.{All-nil, All-cons}
+use Rattle.std.proofs.lemmas.List.Elements.{All-cons}
 use Rattle.eos_evidence.specs.declared.ends.End.{End}
 use Rattle.eos_evidence.specs.declared.partition.Partition.{Partition}
 use Rattle.eos_evidence.specs.declared.segment.Segment.{Segment}
 use Rattle.eos_evidence.specs.SpecFields.{SpecFields}
 use Rattle.eos_evidence.specs.Evidence.{EvidenceParts, IsEvidence, IsPartition, IsOwn, IsRising, segments_of}
 use Rattle.eos_fold.specs.Standing.{AreOf}
+use Rattle.eos_kept.proofs.PartsHeld.{are_of}
 use Rattle.eos_source.specs.Said.{Said, Log, Fold, IsLog, AreLogs}
 use Rattle.eos_source.specs.Shapes.{IsPiece, ArePieces, ArePartitions, IsOfShape}
 
@@ -131,16 +129,6 @@ module _ (said : ℕ → Said) where
       let first = k 0 n (omega arith) in
       All-cons (λ x. (x.topic ≡ topic) × (x.partition ≡ number)) s ss (h.0.topic ∙ first.0, h.0.partition ∙ first.1)
       (of_names topic number (suc piece) names ss h.1 (λ i d lt. k (suc i) d (omega (arith, lt))))
-
-named_own : (e : End) (ss : List Segment) → AllByRecursion (IsOwn e) ss → AreOf e.topic e.partition ss
-named_own e [] h = All-nil (λ s. (s.topic ≡ e.topic) × (s.partition ≡ e.partition))
-named_own e (s ∷ ss) h =
-    let both = and_parts (bytes_eq s.topic e.topic) (int_eq s.partition e.partition) h.0.named in
-    All-cons (λ s. (s.topic ≡ e.topic) × (s.partition ≡ e.partition)) s ss
-    ((bytes_eq-Decides s.topic e.topic).0 both.0, (Decides-int_eq s.partition e.partition).0 both.1) (named_own e ss h.1)
-
-pub are_of : (p : Partition) → IsPartition p → AreOf p.end.topic p.end.partition p.segments
-are_of p h = named_own p.end p.segments h.own
 
 pub of_topic : (p : Partition) → IsPartition p → All (λ s. s.topic ≡ p.end.topic) p.segments
 of_topic p h = λ i d lt. (are_of p h i d lt).0

@@ -21,7 +21,6 @@ mod seats;
 mod share;
 mod slots;
 mod source;
-mod told;
 
 pub use eos_commits::source_topics;
 pub use folder_source::FolderSource;

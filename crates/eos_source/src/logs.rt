@@ -15,7 +15,7 @@ use eos_base::{Listed, Workers};
 use eos_board::Drawn;
 use eos_commits::source_topics;
 use eos_evidence::Evidence;
-use eos_kept::{KeptPart, Sizes, Told};
+use eos_kept::{Part, Sizes, Told};
 use eos_reading::{EpochEntry, Wants};
 use eos_touch::PartitionFault;
 use std::alloc::{AllocError, Global};
@@ -32,7 +32,7 @@ pub struct Tally {
 #[derive(Drop)]
 pub struct KeptLogs {
     /// What is wanted of them.
-    pub parts: Vec<KeptPart>,
+    pub parts: Vec<Part>,
     /// The least fault of each one's bytes.
     pub faults: Vec<Option<PartitionFault>>,
     pub tallies: Vec<Tally>,

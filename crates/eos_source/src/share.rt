@@ -14,10 +14,9 @@ ghost use Rattle.eos_source.specs.steps.Runs.{AreSlotsOf, IsFirstRefused, ArePas
 use crate::joined::next_run;
 use crate::plan::Plan;
 use crate::source::Source;
-use crate::told::told_of;
 use eos_base::Workers;
 use eos_evidence::Partition;
-use eos_kept::{KeptRun, Told};
+use eos_kept::{KeptRun, Told, told_of};
 use std::alloc::{AllocError, Global};
 use std::thread::{Threads, join};
 use std::vec::IntoIter;

@@ -4,22 +4,11 @@ ghost use Rattle.std.specs.Prelude.{◌≡◌, IfOk, map};
 ghost use Rattle.eos_source_check.specs.steps.Apart.{counted_as, IsApart};
 
 use eos_base::Listed;
-use eos_kept::{Logs, Part};
+use eos_kept::Logs;
 use eos_notes::Counted;
 use eos_reading::EpochEntry;
 use eos_source::{KeptLogs, Tally};
 use std::alloc::{AllocError, Global};
-
-/// The same parts, one by one.
-fn wrapped(alloc: Global, parts: Vec<eos_kept::KeptPart>) -> Result<Vec<Part>, AllocError>
-    ensures { IfOk result (λ all. all.items ≡ parts.items) }
-{
-    let mut all = Vec::new(alloc);
-    for part in parts {
-        all.push(Part::kept(part))?;
-    }
-    Ok(all)
-}
 
 /// What was counted of each partition's segments.
 fn counted_in(alloc: Global, tallies: &[Tally]) -> Result<Vec<Counted>, AllocError>
@@ -52,6 +41,5 @@ pub(crate) fn apart(
         ..
     } = kept;
     let counted = counted_in(alloc, tallies.as_slice())?;
-    let parts = wrapped(alloc, parts)?;
     Ok((Logs { parts, faults }, counted, epochs))
 }

@@ -1,4 +1,4 @@
-//! All faults of the phases behind the first, over logs, whole or kept: those of the first of these phases that has one.
+//! All faults of the phases behind the first, over logs: those of the first of these phases that has one.
 
 ghost use Rattle.std.specs.Prelude.{OnOk, map};
 ghost use Rattle.eos_base.specs.Least.{NoneStands};
@@ -82,7 +82,7 @@ fn after_log<S: FaultSink>(
     Ok(())
 }
 
-/// Hands to a sink every fault of the phases behind the first that stands in these logs, whole or kept ones, as if none had a fault by
+/// Hands to a sink every fault of the phases behind the first that stands in these logs, as if none had a fault by
 /// itself: in the verdict's order, each once, and of the outputs that one input lacks the first alone. They are of the first of these
 /// phases that has one. Where no partition of an evidence has a fault by itself, they are all faults of the evidence, over its logs or
 /// over what is kept of them (`laws::later`).

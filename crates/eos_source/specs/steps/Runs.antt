@@ -1,30 +1,17 @@
 -- What is kept of pieces, by their numbers, of which so much is known and which said this.
-use Rattle.std.specs.Prelude.{◌≡◌, ℕ, suc, ◌+◌, ◌≤◌, ◌<◌, not, List, [], ◌∷◌, ◌++◌, length, map, Option, Some, None, Result, Ok, Err, IfOk, IfErr, ⊤}
+use Rattle.std.specs.Prelude.{◌≡◌, ℕ, suc, ◌+◌, ◌≤◌, ◌<◌, List, [], ◌∷◌, ◌++◌, length, map, Option, Some, None, Result, Ok, Err, IfOk, IfErr, ⊤}
 use Rattle.eos_evidence.specs.declared.application.App.{App}
 use Rattle.eos_evidence.specs.declared.segment.Segment.{Segment}
-use Rattle.eos_evidence.specs.Topics.{is_internal}
-use Rattle.eos_reading.specs.declared.wanted.Wanted.{Wanted}
 use Rattle.eos_reading.specs.Wanted.{wanted_of}
 use Rattle.eos_kept.specs.declared.kept_run.KeptRun.{KeptRun}
-use Rattle.eos_kept.specs.KeptRuns.{IsKeptRun, wanted_by, front_of, HasClaims}
+use Rattle.eos_kept.specs.KeptRuns.{IsKeptRun}
+use Rattle.eos_kept.specs.steps.Held.{Asking, IsAsked}
 use Rattle.eos_source.specs.Said.{Said, Known, IsAsKnown}
 use Rattle.eos_source.specs.Shapes.{IsPiece, ArePieces}
-
--- what is asked of the segments of a topic
-pub record Asking : Type 0 where
-  pub topics : List (List ℕ)
-  pub wanted : Wanted
-  pub topic : List ℕ
 
 -- for these applications
 abbrev pub asking : List (List ℕ) → List App → List ℕ → Asking
 asking topics apps topic = record { topics = topics; wanted = wanted_of apps topic; topic = topic }
-
--- what was asked, whatever segments it is kept of
-pub record IsAsked (a : Asking) (run : KeptRun) : Type 0 where
-  pub wanted : wanted_by run ≡ a.wanted
-  pub claims : HasClaims a.topics run
-  pub checked : (front_of run).run.sequenced ≡ not (is_internal a.topic)
 
 -- what each of so many pieces from this number on said
 abbrev pub AreFrom : (ℕ → Known) → (ℕ → Said) → ℕ → ℕ → Type 0
@@ -40,20 +27,6 @@ pub record IsRead (known : ℕ → Known) (said : ℕ → Said) (a : Asking) (pi
 abbrev pub AreRead : (ℕ → Known) → (ℕ → Said) → Asking → ℕ → List Segment → Option KeptRun → Type 0
 AreRead known said a piece names None = names ≡ []
 AreRead known said a piece names (Some run) = IsRead known said a piece names run
-
--- what is kept of segments, or of none
-abbrev pub AreKeptRun : List (List ℕ) → List Segment → Option KeptRun → Type 0
-AreKeptRun topics segments None = segments ≡ []
-AreKeptRun topics segments (Some run) = IsKeptRun topics segments run
-
--- what was asked for, or nothing
-abbrev pub IsWantedBy : Wanted → Option KeptRun → Type 0
-IsWantedBy w None = ⊤
-IsWantedBy w (Some run) = wanted_by run ≡ w
-
-abbrev pub HaveClaims : List (List ℕ) → Option KeptRun → Type 0
-HaveClaims topics None = ⊤
-HaveClaims topics (Some run) = HasClaims topics run
 
 -- ---- slots
 

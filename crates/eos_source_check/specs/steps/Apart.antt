@@ -1,4 +1,4 @@
--- Kept logs, each part in the form that the phases take, and the counts by themselves.
+-- Kept logs with their faults, and what was counted of them by itself.
 use Rattle.std.specs.Prelude.{◌≡◌, List, map}
 use Rattle.eos_kept.specs.declared.logs.Logs.{Logs}
 use Rattle.eos_source.specs.declared.logs.KeptLogs.{KeptLogs}

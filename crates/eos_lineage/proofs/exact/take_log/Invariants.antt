@@ -4,9 +4,9 @@ use Rattle.eos_lineage.specs.steps.Keys.{place_among, below_at, plain_left, HasT
 use Rattle.eos_lineage.proofs.SoFar.{SoFar}
 use Rattle.eos_lineage.proofs.exact.take_log.Given as goal
 
-abbrev pub invariant-loop-item : goal.invariant-loop-item
-invariant-loop-item l = (ns : List PartitionName) (n : PartitionName) → l.place ≡ place_among ns n
-    → SoFar (below_at l.committed n) (HasTaken ns (plain_left l.fn.before) (plain_left l.left)) l.records l.part.items
+abbrev pub invariant-loop-batch : goal.invariant-loop-batch
+invariant-loop-batch l = (ns : List PartitionName) (n : PartitionName) → l.place ≡ place_among ns n
+    → SoFar (below_at l.committed n) (HasTaken ns (plain_left l.fn.before) (plain_left l.left)) l.batches l.part.items
 
-abbrev pub decreases-loop-item : goal.decreases-loop-item
-decreases-loop-item l = length l.records
+abbrev pub decreases-loop-batch : goal.decreases-loop-batch
+decreases-loop-batch l = length l.batches

@@ -8,9 +8,11 @@ use Rattle.eos_kept.specs.Parts.{IsTold}
 use Rattle.eos_reading.specs.declared.wanted.Wanted.{Wanted}
 use Rattle.eos_reading.specs.Wanted.{wanted_of}
 use Rattle.eos_source.specs.Said.{known_by}
-use Rattle.eos_source.specs.steps.Runs.{asking, AreRead, AreKeptRun, IsWantedBy, HaveClaims, AreSlotsOf, ArePassed}
+use Rattle.eos_kept.specs.KeptRuns.{AreKeptRun, IsWantedBy, HaveClaims}
+use Rattle.eos_source.specs.steps.Runs.{asking, AreRead, AreSlotsOf, ArePassed}
 use Rattle.eos_source.proofs.ShapesFilled.{of_topic}
-use Rattle.eos_source.proofs.PartitionsTold.{as_wanted, have_claims, told_of, same_end}
+use Rattle.eos_kept.proofs.PartsHeld.{same_end}
+use Rattle.eos_source.proofs.PartitionsTold.{as_wanted, have_claims, told_of}
 use Rattle.eos_source.proofs.share.next_told.Goals as goal
 
 pub next_run-requires : goal.next_run-requires
