@@ -76,7 +76,7 @@ def asked_of(name, rows):
     return Asked(name, [f"refused {most} {row.call}" for row in rows], lambda answers: judge(name, rows, answers))
 
 
-def asked(paths):
+def asked(paths, run="refused"):
     """The rows of these tables whose allocations are refused."""
     found = []
     for path in paths:
@@ -84,8 +84,9 @@ def asked(paths):
         rows = [row for row in tables.rows_of(path)[0] if row.call.split()[0] in calls()[name]]
         if rows:
             found.append(asked_of(name, rows))
-    return together("refused", found)
+    return together(run, found)
 
 
 def all_asked():
-    return [asked(f"{HERE}/tables/{name}" for name in sorted(calls()))]
+    """A run for each table: a row of many allocations, each of them refused, takes seconds."""
+    return [asked([f"{HERE}/tables/{name}"], f"refused-{name}") for name in sorted(calls())]

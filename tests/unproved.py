@@ -21,7 +21,7 @@ import tempfile
 TOP = os.path.dirname(os.path.dirname(os.path.abspath(__file__)))
 SOURCES = f"{TOP}/tests/rows"
 # What the kit's interpreter, which is slow, may do, and how long the compiled program may take for one file of rows.
-LIMITS = "--steps", "1", "--seconds", "600"
+LIMITS = "--steps", "1", "--seconds", "1800"
 # Lines of the kit's own on standard error, which every run has.
 OWN = re.compile(r"(interpreter: |checked: the program ended|allocations: |races: |rt: compiling )")
 
