@@ -21,6 +21,8 @@ REFUSED = ("OutOfMemory", "AllocError", "AllocFailed", "out of memory")
 MOST = 300
 # That table, of small rows, and how many allocations its rows may have.
 SMALL, SMALL_MOST = "refusals.txt", 3000
+# The table whose rows take longest, and how many of them are one run.
+LONG, EACH = "all_faults.txt", 7
 # The calls after whose refusals the program goes on.
 GOES_ON = {"add_segments", "cluster", "keep_texts"}
 # Where the writer is refused memory of its own, that is a failed write.
@@ -88,5 +90,7 @@ def asked(paths, run="refused"):
 
 
 def all_asked():
-    """A run for each table: a row of many allocations, each of them refused, takes seconds."""
-    return [asked([f"{HERE}/tables/{name}"], f"refused-{name}") for name in sorted(calls())]
+    """A run for each table, and of all_faults.txt for each EACH rows: a row of many allocations, each of them refused, takes seconds."""
+    found = [asked([f"{HERE}/tables/{name}"], f"refused-{name}") for name in sorted(calls()) if name != LONG]
+    rows = [row for row in tables.rows_of(f"{HERE}/tables/{LONG}")[0] if row.call.split()[0] in calls()[LONG]]
+    return found + [together(f"refused-{at}-{LONG}", [asked_of(LONG, rows[at : at + EACH])]) for at in range(0, len(rows), EACH)]
