@@ -62,7 +62,7 @@ pub(crate) fn control_type(key: Option<&[u8]>) -> Option<i16>
 }
 
 /// The coordinator's epoch, by the value of an end marker.
-pub(crate) fn coordinator_epoch(value: Option<&[u8]>) -> Option<i32>
+pub fn coordinator_epoch(value: Option<&[u8]>) -> Option<i32>
     ensures { result ≡ coordinator_epoch_of (option_map (λ s. s.now) value.entry) }
 {
     let Some(bytes) = value else {
@@ -76,7 +76,7 @@ pub(crate) fn coordinator_epoch(value: Option<&[u8]>) -> Option<i32>
 }
 
 /// The kind of an end marker, by its key.
-pub(crate) fn end_kind(key: Option<&[u8]>) -> Option<Kind>
+pub fn end_kind(key: Option<&[u8]>) -> Option<Kind>
     ensures { result ≡ end_kind (option_map (λ s. s.now) key.entry) }
 {
     match control_type(key) {

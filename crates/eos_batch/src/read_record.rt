@@ -71,7 +71,7 @@ pub(crate) fn headers_of(
 
 /// The record of these fields, whose headers take all bytes that are left.
 #[inline(always)]
-pub(crate) fn own_parts(alloc: Global, parts: Parts) -> Result<Record, BatchFault>
+fn own_parts(alloc: Global, parts: Parts) -> Result<Record, BatchFault>
     ensures { Answers result (whole_from parts.entry) }
 {
     let Parts {

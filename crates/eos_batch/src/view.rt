@@ -1,4 +1,4 @@
-//! A record of a batch, read where it stands: as a value of its own, or lent.
+//! A record of a batch, lent where it stands.
 
 ghost use Rattle.std.specs.Prelude.{◌≡◌, ◌≤◌, [], ◌∷◌, length, slice_range, Ok, IfOk, IfErr, IfNone, IfSome};
 ghost use Rattle.std.specs.Option.{option_map};
@@ -14,27 +14,9 @@ ghost use Rattle.eos_batch.specs.steps.Places.{parts_at, placed_from};
 use crate::fault::BatchFault;
 use crate::field::{read_bytes, read_count, read_int, read_long, read_optional};
 use crate::passing::pass_headers;
-use crate::read_record::own_parts;
-use crate::record::Record;
 use bytes::Bytes;
 use eos_wire::{Cursor, are_bytes};
-use std::alloc::Global;
 use std::marker::Model;
-
-/// The record whose length stands at `at`, as a value of its own, sharing the bytes.
-///
-/// # Errors
-/// Want of memory, or the first test that fails where no record stands there.
-#[tactic(auto, unfolding(crate::specs::Places::found_at))]
-pub fn own_record(alloc: Global, bytes: &Bytes, at: usize) -> Result<Record, BatchFault>
-    requires { at ≤ length bytes.now }
-    ensures { Answers result (found_at at bytes.now) }
-{
-    let mut all = Cursor::starting_at(bytes, at);
-    let text = read_bytes(&mut all)?;
-    let parts = parts_of(text)?;
-    own_parts(alloc, parts)
-}
 
 /// A record's fields before its headers, and what is left for these.
 #[derive(Drop)]
@@ -88,6 +70,17 @@ impl<'a> Model for HeaderRef<'a> {
     ghost view = { λ h. record { key = h.key; value = h.value } };
 }
 
+/// The bytes of a text; None for null.
+#[inline(always)]
+fn rest_of<'a>(text: &Option<Cursor<'a>>) -> Option<&'a [u8]>
+    ensures { option_map (λ s. s.now) result ≡ text.now }
+{
+    match text {
+        Some(text) => Some(text.rest()),
+        None => None,
+    }
+}
+
 impl<'a> HeaderRef<'a> {
     /// The bytes of its key.
     pub fn key(&self) -> &'a [u8]
@@ -100,10 +93,7 @@ impl<'a> HeaderRef<'a> {
     pub fn value(&self) -> Option<&'a [u8]>
         ensures { option_map (λ s. s.now) result ≡ self.now.value }
     {
-        match &self.value {
-            Some(value) => Some(value.rest()),
-            None => None,
-        }
+        rest_of(&self.value)
     }
 }
 
@@ -213,20 +203,14 @@ impl<'a> RecordRef<'a> {
     pub fn key(&self) -> Option<&'a [u8]>
         ensures { option_map (λ s. s.now) result ≡ self.now.key }
     {
-        match &self.key {
-            Some(key) => Some(key.rest()),
-            None => None,
-        }
+        rest_of(&self.key)
     }
 
     /// The bytes of its value; None for null.
     pub fn value(&self) -> Option<&'a [u8]>
         ensures { option_map (λ s. s.now) result ≡ self.now.value }
     {
-        match &self.value {
-            Some(value) => Some(value.rest()),
-            None => None,
-        }
+        rest_of(&self.value)
     }
 
     /// The same record once more.

@@ -27,6 +27,7 @@ use Rattle.eos_faults.specs.declared.lent.VisibleClaim.{VisibleClaim}
 use Rattle.eos_faults.specs.steps.OutputFaultsGathered.{place_faults, number_faults, disagrees, is_repeated, first_at, shown_at, placed_at, numbered_at, lacking, lacks, missing_at, first_absent, is_there, top_of, first_of, gathered_by}
 use Rattle.eos_faults.specs.steps.Plain.{claim_at, place_at}
 use Rattle.eos_faults.specs.steps.BySource.{IsEndOf, AreTold, source_of, itself}
+use Rattle.eos_faults.proofs.SortedClaims.{has_get}
 
 -- ---- a stretch of a list
 
@@ -39,19 +40,20 @@ parted xs zero m = let z : 0 + m ≡ m = omega arith in ap (λ n. take n xs) z
 parted [] (suc j) m = none_of (suc j + m) ∙ sym (none_of m)
 parted (x ∷ xs) (suc j) m = let z : suc j + m ≡ suc (j + m) = omega arith in ap (λ n. take n (x ∷ xs)) z ∙ ap (λ ys. x ∷ ys) (parted xs j m)
 
-has_get : {X : Type 0} (xs : List X) (x : X) → Has xs x → (k : ℕ) × (slice_get xs k ≡ Some x)
-has_get [] x h = absurd h
-has_get (y ∷ ys) x (inl e) = (zero, ap Some e)
-has_get (y ∷ ys) x (inr h) = let r = has_get ys x h in (suc r.0, r.1)
+-- where an item of a stretch stands
+pub get_stretch : {X : Type 0} (xs : List X) (j m k : ℕ) (x : X) → slice_get (take m (drop j xs)) k ≡ Some x → (k < m) × (slice_get xs (j + k) ≡ Some x)
+get_stretch xs j m k x at =
+    let inside = slice_get_within (take m (drop j xs)) k x at in
+    let n = length-take m (drop j xs) in
+    let lt : k < m = omega (arith, inside, n) in
+    (lt, sym (get_drop j xs k) ∙ (sym (get_take m (drop j xs) k lt) ∙ at))
 
--- an item of a stretch stands in it
-in_stretch : {X : Type 0} (xs : List X) (j m : ℕ) (x : X) → Has (take m (drop j xs)) x → (k : ℕ) × (j ≤ k) × (k < j + m) × (slice_get xs k ≡ Some x)
+pub in_stretch : {X : Type 0} (xs : List X) (j m : ℕ) (x : X) → Has (take m (drop j xs)) x → (k : ℕ) × (j ≤ k) × (k < j + m) × (slice_get xs k ≡ Some x)
 in_stretch xs j m x h =
     let r = has_get (take m (drop j xs)) x h in
-    let in_front = slice_get_within (take m (drop j xs)) r.0 x r.1 in
-    let n = length-take m (drop j xs) in
-    let lt : r.0 < m = omega (arith, in_front, n) in
-    (j + r.0, omega arith, omega (arith, lt), sym (get_drop j xs r.0) ∙ (sym (get_take m (drop j xs) r.0 lt) ∙ r.1))
+    let g = get_stretch xs j m r.0 x r.1 in
+    let lt = g.0 in
+    (j + r.0, omega arith, omega (arith, lt), g.1)
 
 -- what is shown at a longer front is shown at the shorter one or at the stretch behind it
 module _ {X Y Z : Type 0} (g : Y → List Z) (v : X → Y) (xs : List X) (j m : ℕ) where
@@ -109,7 +111,7 @@ module _ (a : Application) where
 
 -- ---- places in order
 
-up_less : (x y z : Place) → UpTo place_cmp x y → place_cmp y z ≡ Less → place_cmp x z ≡ Less
+pub up_less : (x y z : Place) → UpTo place_cmp x y → place_cmp y z ≡ Less → place_cmp x z ≡ Less
 up_less x y z up less = go (place_cmp x y) refl up
   where
     go : (o : Ordering) → place_cmp x y ≡ o → is_gt o ≡ false → place_cmp x z ≡ Less

@@ -20,4 +20,7 @@ pub mod FrontSteps
 pub mod Ties
 pub mod AllFound
 pub mod SourceEnds
+pub mod NextSource
+pub mod NumbersThere
+pub mod ShownClaims
 pub mod SinksTaken

@@ -1,9 +1,10 @@
 -- What the look-ups answer.
-use Rattle.std.proofs.Common.{◌≡◌, ℕ, suc, ◌+◌, ◌-◌, ◌≤◌, ◌<◌, ℤ, pos, List, [], ◌∷◌, fold, Option, Some, None, option_map, refl, sym, ap, ◌∙◌, true, false, Bool, ◌&&◌, ◌||◌, cond, if◌then◌else◌, arith, IsPermutation}
-use Rattle.std.specs.Prelude.{int_lt, is_some}
+use Rattle.std.proofs.Common.{◌≡◌, ◌⊎◌, ℕ, zero, suc, ◌+◌, ◌≤◌, ◌<◌, ℤ, pos, List, [], ◌∷◌, fold, Option, Some, None, refl, sym, ap, ◌∙◌, inl, inr, true, false, Bool, ◌&&◌, ◌||◌, cond, if◌then◌else◌, arith, IsPermutation}
+use Rattle.std.specs.Prelude.{int_lt}
 use Rattle.std.specs.List.{filter, list_any}
 use Rattle.std.specs.Ordering.{is_eq}
 use Rattle.std.specs.declared.cmp.Ordering.{Ordering}
+use Rattle.std.proofs.lemmas.Bool.{cases_lt}
 use Rattle.std.proofs.lemmas.Int.{ints}
 use Rattle.std.proofs.lemmas.List.Sorted.{list_any-IsPermutation}
 use Rattle.eos_base.specs.declared.partition_name.PartitionName.{PartitionName}
@@ -82,25 +83,32 @@ passed_is (Some w) i ms = past_from w i None ms
 
 -- ---- the first number that isn't there
 
-pub some_mapped : {X Y : Type 0} (f : X → Y) (o : Option X) → is_some (option_map f o) ≡ is_some o
-some_mapped f None = refl
-some_mapped f (Some x) = refl
+pub absent_at : (there : ℕ → Bool) (count n k : ℕ) → n ≤ k → k < n + count → ((m : ℕ) → n ≤ m → m < k → there m ≡ true) → there k ≡ false → first_absent there count n ≡ Some k
+absent_at there zero n k from below before e = absurd (omega (arith, from, below))
+absent_at there (suc count) n k from below before e =
+    go (λ lt. absent_at there count (n + 1) k (omega (arith, lt)) (omega (arith, below)) (λ m le. before m (omega (arith, le))) e) (there n) refl
+  where
+    here_or_later : (n < k) ⊎ (k ≤ n)
+    here_or_later = cases_lt n k
 
-one_less : (top n : ℕ) → n < top → (c : ℕ) × (top - n ≡ suc c) × (c ≡ top - (n + 1))
-one_less top n lt = (top - (n + 1), omega (arith, lt), refl)
+    go : (n < k → first_absent there count (n + 1) ≡ Some k) → (b : Bool) → there n ≡ b → (if b then first_absent there count (n + 1) else Some n) ≡ Some k
+    go more true t = elim here_or_later [
+      | inl lt ↦ more lt
+      | inr ge ↦
+          let same : n ≡ k = omega (arith, from, ge) in
+          let bad : true ≡ false = sym t ∙ (ap there same ∙ e) in
+          absurd cc
+    ]
+    go more false t = elim here_or_later [
+      | inl lt ↦ let bad : false ≡ true = sym t ∙ before n (omega arith) lt in absurd cc
+      | inr ge ↦ let same : n ≡ k = omega (arith, from, ge) in ap Some same
+    ]
 
-pub absent_next : (there : ℕ → Bool) (top n : ℕ) → n < top → there (n + 1) ≡ true → first_absent there (top - n) (n + 1) ≡ first_absent there (top - (n + 1)) (n + 1 + 1)
-absent_next there top n lt t =
-    let r = one_less top n lt in
-    ap (λ c. first_absent there c (n + 1)) r.1 ∙ (ap (λ b. if b then first_absent there r.0 (n + 1 + 1) else Some (n + 1)) t ∙ ap (λ c. first_absent there c (n + 1 + 1)) r.2)
-
-pub absent_here : (there : ℕ → Bool) (top n : ℕ) → n < top → there (n + 1) ≡ false → first_absent there (top - n) (n + 1) ≡ Some (n + 1)
-absent_here there top n lt t =
-    let r = one_less top n lt in
-    ap (λ c. first_absent there c (n + 1)) r.1 ∙ ap (λ b. if b then first_absent there r.0 (n + 1 + 1) else Some (n + 1)) t
-
-pub absent_none : (there : ℕ → Bool) (top n : ℕ) → top ≤ n → first_absent there (top - n) (n + 1) ≡ None
-absent_none there top n le = let e : top - n ≡ 0 = omega (arith, le) in ap (λ c. first_absent there c (n + 1)) e
+pub absent_never : (there : ℕ → Bool) (count n : ℕ) → ((m : ℕ) → n ≤ m → m < n + count → there m ≡ true) → first_absent there count n ≡ None
+absent_never there zero n all = refl
+absent_never there (suc count) n all =
+    ap (λ b. if b then first_absent there count (n + 1) else Some n) (all n (omega arith) (omega arith))
+    ∙ absent_never there count (n + 1) (λ m le lt. all m (omega (arith, le)) (omega (arith, lt)))
 
 -- ---- sources and inputs
 

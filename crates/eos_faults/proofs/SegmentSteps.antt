@@ -1,94 +1,45 @@
 -- A walk along a segment, one batch further, and its end.
-use Rattle.std.proofs.Common.{◌≡◌, ◌≢◌, ℕ, ◌+◌, ◌<◌, ◌≤◌, ◌^◌, pos, List, [], ◌∷◌, ◌++◌, length, take, drop, Result, Ok, Err, MatchResult, refl, sym, ap, subst, ◌∙◌, arith, Bool, append_assoc}
-use Rattle.std.proofs.lemmas.List.{append-nil, drop_all, length-drop}
+use Rattle.std.proofs.Common.{◌≡◌, ℕ, ◌+◌, ◌<◌, ◌≤◌, ◌^◌, pos, List, [], ◌∷◌, ◌++◌, length, drop, Result, Ok, Err, MatchResult, refl, sym, ap, subst, ◌∙◌, arith, Bool, append_assoc}
+use Rattle.std.specs.Prelude.{unsigned_abs}
+use Rattle.std.proofs.lemmas.List.{append-nil, drop_all}
 use Rattle.eos_wire.specs.Numbers.{IsBytes}
 use Rattle.eos_batch.specs.declared.batch.Batch.{Batch}
-use Rattle.eos_batch.specs.declared.fault.BatchFault.{BatchFault}
-use Rattle.eos_batch.specs.declared.fault.BatchFault.TheVariants.{OutOfMemory}
 use Rattle.eos_batch.specs.declared.head.BatchHead.{BatchHead}
-use Rattle.eos_batch.specs.Answers.{Fails}
-use Rattle.eos_batch.specs.Heads.{head_of}
 use Rattle.eos_batch.specs.Offsets.{offset_of}
-use Rattle.eos_batch.specs.Reading.{batch_at}
-use Rattle.eos_batch.specs.Text.{HasTextAt}
-use Rattle.eos_batch.proofs.BatchTexts.{IsBytes-drop, text_at}
 use Rattle.eos_batch.proofs.SegmentTexts.{step_at}
 use Rattle.eos_touch.specs.Front.{records_in}
-use Rattle.eos_touch.proofs.BatchReading.{parted, sized, not_passed, fails_is}
-use Rattle.eos_touch.proofs.Continuity.{records_in-append, continues-push, abs_pos, fits_on}
+use Rattle.eos_touch.proofs.Continuity.{records_in-append, continues-push}
 use Rattle.eos_fold.specs.declared.stop.Stop.{Stop}
-use Rattle.eos_fold.specs.declared.stop.Stop.TheVariants.{AtEnd, NoBatch, Elsewhere}
+use Rattle.eos_fold.specs.declared.stop.Stop.TheVariants.{AtEnd}
 use Rattle.eos_fold.specs.Fronts.{StopsAt}
+use Rattle.eos_fold.specs.FrontHeads.{IsNextHead, EndsThere}
+use Rattle.eos_fold.proofs.FrontHeads.{offset_is}
 use Rattle.eos_faults.specs.declared.walk.Walk.{Walk}
 use Rattle.eos_faults.specs.steps.Walks.{HasPassed, Passes, Stops, HasWalkedTo, HasPassedSegment}
 
-elsewhere_is_inside : (found : ℕ) → Elsewhere found ≢ AtEnd
-elsewhere_is_inside found e = cc
-
-no_batch_is_inside : (segment byte : ℕ) (fault : BatchFault) → NoBatch segment byte fault ≢ AtEnd
-no_batch_is_inside segment byte fault e = cc
-
 -- ---- a batch
 
-stands_there : (bytes : List ℕ) (at size : ℕ) (b : Batch) → IsBytes bytes → at < length bytes → batch_at (drop at bytes) ≡ Ok (b, size) → HasTextAt bytes at b size
-stands_there bytes at size b fits lt read = text_at bytes at (b, size) (IsBytes-drop at bytes fits) (omega (arith, lt)) read
-
--- the batch begins elsewhere
-pub stops_elsewhere : (sequenced : Bool) (front : List Batch) (begin : ℕ) (bytes : List ℕ) (at : ℕ) (walk : Walk) (head : BatchHead) (b : Batch) → IsBytes bytes → at < length bytes
-    → batch_at (drop at bytes) ≡ Ok (b, head.size) → head ≡ head_of b head.size → head.offset ≢ walk.next → HasPassed sequenced front walk → Stops sequenced front begin bytes at walk (Elsewhere head.offset)
-stops_elsewhere sequenced front begin bytes at walk head b fits lt read is ne h =
-    let text = stands_there bytes at head.size b fits lt read in
-    record {
-      stops = (
-        b,
-        (take head.size (drop at bytes), drop (at + head.size) bytes, text.1, parted at head.size bytes (omega (arith, lt))),
-        ap (λ (x : BatchHead). x.offset) is,
-        λ e. ne (e ∙ sym h.next),
-      );
-      inside = elsewhere_is_inside head.offset;
-      passed = h;
-    }
-
--- the bytes are no batch
-pub stops_at_bytes : (sequenced : Bool) (front : List Batch) (begin : ℕ) (bytes : List ℕ) (at : ℕ) (walk : Walk) (fault read : BatchFault) → at < length bytes → Fails read (batch_at (drop at bytes)) → fault ≡ read → fault ≢ OutOfMemory
-    → HasPassed sequenced front walk → Stops sequenced front begin bytes at walk (NoBatch begin at fault)
-stops_at_bytes sequenced front begin bytes at walk fault read lt fails same real h = record {
-  stops = (
-    not_passed at bytes lt,
-    fails_is fault (batch_at (drop at bytes)) real (subst (λ f. Fails f (batch_at (drop at bytes))) (sym same) fails),
-    refl,
-    omega (arith, length-drop at bytes, lt),
-  );
-  inside = no_batch_is_inside begin at fault;
-  passed = h;
-}
-
--- its end fits, and it has bytes
-pub record Fits (bytes : List ℕ) (at : ℕ) (head : BatchHead) : Type 0 where
-  pub next : head.offset + head.count < 2 ^ 64
-  pub some : 1 ≤ head.size
-  pub within : at + head.size ≤ length bytes
-
-pub fits_there : (bytes : List ℕ) (at : ℕ) (head : BatchHead) (b : Batch) → IsBytes bytes → at < length bytes → batch_at (drop at bytes) ≡ Ok (b, head.size) → head ≡ head_of b head.size → Fits bytes at head
-fits_there bytes at head b fits lt read is =
-    let text = stands_there bytes at head.size b fits lt read in
-    let last = fits_on b.base_offset (offset_of b) (length b.records) (abs_pos b.base_offset text.1.counted.first) text.1.counted.last in
-    let offset : head.offset ≡ offset_of b = ap (λ (x : BatchHead). x.offset) is in
-    let count : head.count ≡ length b.records = ap (λ (x : BatchHead). x.count) is in
-    record { next = omega (arith, offset, count, last); some = sized at head.size bytes b text.0 text.1; within = text.0 }
+-- its end fits
+pub fits_u64 : (bytes : List ℕ) (at next : ℕ) (head : BatchHead) → IsNextHead bytes at next head → head.offset + head.count < 2 ^ 64
+fits_u64 bytes at next head h = let e = offset_is bytes at next head h in omega (arith, e, h.fits)
 
 -- the batch is of the front
-pub passes : (sequenced : Bool) (front : List Batch) (bytes : List ℕ) (at : ℕ) (walk after : Walk) (head : BatchHead) (b : Batch) → IsBytes bytes → at < length bytes → batch_at (drop at bytes) ≡ Ok (b, head.size) → head ≡ head_of b head.size
-    → head.offset ≡ walk.next → HasPassed sequenced front walk → (offset_of b ≡ records_in front → HasPassed sequenced front walk → HasPassed sequenced (front ++ b ∷ []) after) → Passes sequenced front bytes at after head.size
-passes sequenced front bytes at walk after head b fits lt read is eq h pass =
-    let text = stands_there bytes at head.size b fits lt read in
-    let on : offset_of b ≡ records_in front = sym (ap (λ (x : BatchHead). x.offset) is) ∙ (eq ∙ h.next) in
-    record {
-      batch = b;
-      read = read;
-      stands = abs_pos b.base_offset text.1.counted.first ∙ ap pos on;
-      passed = pass on h;
-    }
+pub passes : (sequenced : Bool) (front : List Batch) (bytes : List ℕ) (at : ℕ) (walk after : Walk) (head : BatchHead) → (next : IsNextHead bytes at walk.next head) → HasPassed sequenced front walk
+    → (offset_of next.batch ≡ records_in front → HasPassed sequenced front walk → HasPassed sequenced (front ++ next.batch ∷ []) after) → Passes sequenced front bytes at after head.size
+passes sequenced front bytes at walk after head next h pass = record {
+  batch = next.batch;
+  read = next.reads;
+  stands = next.stands ∙ ap pos h.next;
+  passed = pass (ap unsigned_abs next.stands ∙ h.next) h;
+}
+
+-- the front ends there
+pub stops_there : (sequenced : Bool) (front : List Batch) (begin : ℕ) (bytes : List ℕ) (at : ℕ) (walk : Walk) (stop : Stop) → EndsThere begin bytes at walk.next stop → HasPassed sequenced front walk → Stops sequenced front begin bytes at walk stop
+stops_there sequenced front begin bytes at walk stop ends h = record {
+  stops = subst (λ (n : ℕ). StopsAt begin n bytes (drop at bytes) stop) h.next ends.stops;
+  inside = ends.inside;
+  passed = h;
+}
 
 -- ---- a segment
 

@@ -1,216 +1,107 @@
--- The first claim of a source, and the first of a source and a number, among claims in order.
-use Rattle.std.proofs.Common.{◌≡◌, ◌≤◌, ◌<◌, ◌-◌, ℕ, zero, suc, List, [], ◌∷◌, length, Option, Some, None, refl, sym, subst, ap, ◌∙◌, inl, inr, ◌⊎◌, true, false, Bool, not, ◌&&◌, arith, IsSorted, MatchOption}
-use Rattle.std.specs.Prelude.{slice_index_or, nat_lt}
-use Rattle.std.specs.List.Sorted.{IsPartitionedBy}
-use Rattle.std.specs.Ordering.{nat_cmp, on, then_cmp, is_eq, is_lt, is_gt, ordering_then, ordering_reverse}
+-- The first claim of a source, the first of a source and a number, and the numbers that are there, among the claims of that source in order.
+use Rattle.std.proofs.Common.{◌≡◌, ◌≢◌, ◌≤◌, ◌<◌, ◌+◌, ℕ, zero, suc, List, [], ◌∷◌, Option, Some, None, refl, sym, subst, ap, ◌∙◌, inl, inr, true, false, Bool, ◌&&◌, arith, IsSorted, MatchOption}
+use Rattle.std.specs.Prelude.{slice_get, slice_index_or, is_some}
+use Rattle.std.specs.Ordering.{nat_cmp, is_eq, is_lt, is_gt, ordering_then, ordering_reverse}
 use Rattle.std.specs.Cmp.{IsTotalOrder}
 use Rattle.std.specs.declared.cmp.Ordering.{Ordering}
 use Rattle.std.specs.declared.cmp.Ordering.TheVariants.{Less, Equal, Greater}
-use Rattle.std.proofs.lemmas.Bool.{and_from, cases_lt, lt-ltb, ltb-true}
-use Rattle.std.proofs.lemmas.Cmp.{tied_itself, then_total, on_total, nat_cmp_total, ranked}
+use Rattle.std.proofs.lemmas.Bool.{cases_lt}
+use Rattle.std.proofs.lemmas.Option.{slice_get_within, get_or_from_slice_get}
 use Rattle.std.proofs.lemmas.List.Sorted.{sorted_far}
 use Rattle.std.proofs.lemmas.List.MinMax.{ranks_by}
 use Rattle.eos_base.specs.Members.{Has}
 use Rattle.eos_base.specs.Least.{UpTo}
-use Rattle.eos_base.proofs.Exact.{then_parts, nat_exact, is_tied}
-use Rattle.eos_base.proofs.Membership.{has_map, map_has}
+use Rattle.eos_base.proofs.Exact.{then_parts}
+use Rattle.eos_base.proofs.Membership.{map_has}
 use Rattle.eos_claims.specs.declared.place.Place.{Place}
 use Rattle.eos_claims.specs.Outputs.{PlacedClaim, Application}
 use Rattle.eos_claims.specs.Faults.{place_cmp, number_cmp}
-use Rattle.eos_claims.specs.Candidates.{AreApart, names}
-use Rattle.eos_claims.proofs.ClaimOrder.{both_from, same_place_true, is_less, nat_tied}
-use Rattle.eos_claims.proofs.FaultOrder.{place_exact, place_total, number_total}
-use Rattle.eos_commits.proofs.NameSearch.{has_index}
+use Rattle.eos_claims.specs.Candidates.{AreApart, claim_cmp, counted, names}
+use Rattle.eos_claims.proofs.ClaimOrder.{in_run, outputs_rise, same_number, same_place_true, true_same_place}
+use Rattle.eos_claims.proofs.FaultOrder.{claim_total, place_exact, number_total}
+use Rattle.eos_commits.proofs.NameSearch.{get_has}
 use Rattle.eos_faults.specs.declared.lent.VisibleClaim.{VisibleClaim}
-use Rattle.eos_faults.specs.contracts.lent.VisibleClaimOrd.TheImpl.Laws.{total-law as claim-total}
-use Rattle.eos_faults.specs.steps.OutputFaultsGathered.{least_where, first_of, is_numbered, first_at}
+use Rattle.eos_faults.specs.contracts.lent.VisibleClaimOrd.TheImpl.Laws.{total-law as sorted-total}
+use Rattle.eos_faults.specs.steps.OutputFaultsGathered.{least_where, first_of, is_numbered, first_at, is_there}
 use Rattle.eos_faults.specs.steps.Plain.{claim_at, place_at}
-use Rattle.eos_faults.specs.steps.Tables.{by_claim, before, AreBefore, AreBehind, IsBound, AreClaims}
-use Rattle.eos_faults.proofs.FirstClaims.{IsLeastWhere, NoneWhere, least_is, neither_greater, at_cmp, at_total}
+use Rattle.eos_faults.specs.steps.SourceClaims.{AreClaimsOf, DoNumbersRise, DoRise, HasNumber, IsFirstSoFar, IsNextFirst}
+use Rattle.eos_faults.specs.steps.Tables.{by_claim}
+use Rattle.eos_faults.proofs.FirstClaims.{IsLeastWhere, NoneWhere, least_is, by_least, neither_greater, numbered_is, is_numbered_by, at_cmp, at_total}
 
--- ---- the order of claims, and of their sources and numbers
+-- ---- members by place
 
-pub record Key : Type 0 where
-  pub source : Place
-  pub output : ℕ
+pub has_get : {X : Type 0} (xs : List X) (x : X) → Has xs x → (k : ℕ) × (slice_get xs k ≡ Some x)
+has_get [] x h = absurd h
+has_get (y ∷ ys) x (inl e) = (zero, ap Some e)
+has_get (y ∷ ys) x (inr h) = let r = has_get ys x h in (suc r.0, r.1)
 
-abbrev key : Place → ℕ → Key
-key i n = record { source = i; output = n }
-
-abbrev key_of : VisibleClaim → Key
-key_of c = key (place_at c.source) c.output
-
-abbrev by_key : Key → Key → Ordering
-by_key = then_cmp (on (λ k. k.source) place_cmp) (on (λ k. k.output) nat_cmp)
-
-key_total : IsTotalOrder by_key
-key_total = then_total (on_total (λ k. k.source) place_total) (on_total (λ k. k.output) nat_cmp_total)
+-- ---- the order of claims
 
 -- claims are ordered by source, number, place and more
 parts_of : (c d : VisibleClaim) → (r : Ordering) × (by_claim c d
     ≡ ordering_then (place_cmp (place_at c.source) (place_at d.source)) (ordering_then (nat_cmp c.output d.output) (ordering_then (place_cmp (place_at c.at) (place_at d.at)) r)))
 parts_of c d = (_, refl)
 
-front_of : (p q r s : Ordering) → is_lt (ordering_then p (ordering_then q (ordering_then r s))) ≡ false → is_lt (ordering_then p q) ≡ false
+front_of : (p q r s : Ordering) → is_lt (ordering_then p (ordering_then q (ordering_then r s))) ≡ false → is_lt (ordering_then p (ordering_then q r)) ≡ false
 front_of Less q r s e = e
 front_of Greater q r s e = refl
 front_of Equal Less r s e = e
 front_of Equal Greater r s e = refl
-front_of Equal Equal r s e = refl
-
--- what is tied in front is ordered by what is behind
-behind_one : (p q r s : Ordering) → p ≡ Equal → is_lt (ordering_then p (ordering_then q (ordering_then r s))) ≡ false → is_lt (ordering_then q r) ≡ false
-behind_one p q r s e up = go q r s (subst (λ z. is_lt (ordering_then z (ordering_then q (ordering_then r s))) ≡ false) e up)
-  where
-    go : (q r s : Ordering) → is_lt (ordering_then q (ordering_then r s)) ≡ false → is_lt (ordering_then q r) ≡ false
-    go Less r s e = e
-    go Greater r s e = refl
-    go Equal Less s e = e
-    go Equal Greater s e = refl
-    go Equal Equal s e = refl
-
-pub key_up : (c d : VisibleClaim) → is_lt (by_claim c d) ≡ false → is_lt (by_key (key_of c) (key_of d)) ≡ false
-key_up c d e = let r = parts_of c d in front_of (place_cmp (place_at c.source) (place_at d.source)) (nat_cmp c.output d.output) (place_cmp (place_at c.at) (place_at d.at)) r.0 (subst (λ o. is_lt o ≡ false) r.1 e)
-
-still_less : {X : Type 0} {cmp : X → X → Ordering} → IsTotalOrder cmp → (x y z : X) → is_lt (cmp y x) ≡ false → is_lt (cmp y z) ≡ true → is_lt (cmp x z) ≡ true
-still_less {X} {cmp} o x y z up below = go (cmp x y) refl
-  where
-    less : cmp y z ≡ Less
-    less = is_less (cmp y z) below
-
-    no : cmp y x ≡ Less → ⊥
-    no e = let f = subst (λ w. is_lt w ≡ false) e up in absurd cc
-
-    go : (r : Ordering) → cmp x y ≡ r → is_lt (cmp x z) ≡ true
-    go Less e = let t = o.trans x y z e less in rw t refl
-    go Equal e = let t : cmp x z ≡ Less = o.congr x y z e ∙ less in rw t refl
-    go Greater e = absurd (no (o.antisymm y x ∙ ap ordering_reverse e))
-
-far : (cs : List VisibleClaim) → IsSorted by_claim cs → (i j : ℕ) (d : VisibleClaim) → i ≤ j → j < length cs → is_lt (by_claim (slice_index_or cs j d) (slice_index_or cs i d)) ≡ false
-far cs up i j d le lt = sorted_far (λ x y. is_lt (by_claim x y)) (ranks_by claim-total (λ (c : VisibleClaim). c)) cs up i j d le lt
-
-pub partitioned : (i : Place) (n : ℕ) (cs : List VisibleClaim) → IsSorted by_claim cs → IsPartitionedBy (before i n) cs
-partitioned i n cs up = λ p q d le lt t.
-    let c = slice_index_or cs p d in
-    let e = slice_index_or cs q d in
-    still_less key_total (key_of c) (key_of e) (key i n) (key_up e c (far cs up p q d le lt)) t
-
--- ---- what the claim at an index shows
-
-pub is_not : (b : Bool) → not b ≡ true → b ≡ false
-is_not true e = absurd cc
-is_not false e = refl
-
-same_default : (xs : List VisibleClaim) (m : ℕ) (c d : VisibleClaim) → m < length xs → slice_index_or xs m c ≡ slice_index_or xs m d
-same_default [] m c d lt = absurd (omega arith)
-same_default (x ∷ xs) zero c d lt = refl
-same_default (x ∷ xs) (suc m) c d lt = same_default xs m c d (omega (arith, lt))
-
-pub none_before : (i : Place) (n : ℕ) (cs : List VisibleClaim) → AreBefore i n cs 0
-none_before i n cs = λ k d lo hi. absurd (omega (arith, hi))
-
-pub all_before : (i : Place) (n : ℕ) (cs : List VisibleClaim) (k : ℕ) (c : VisibleClaim) → IsPartitionedBy (before i n) cs → 0 < k → true ≡ nat_lt (k - 1) (length cs) → c ≡ slice_index_or cs (k - 1) c
-    → before i n c ≡ true → AreBefore i n cs k
-all_before i n cs k c parted some inside is e = λ j d lo hi.
-    let lt : k - 1 < length cs = ltb-true (k - 1) (length cs) (sym inside) in
-    parted j (k - 1) d (omega (arith, hi)) lt (subst (λ x. before i n x ≡ true) (is ∙ same_default cs (k - 1) c d lt) e)
-
-pub none_behind : (i : Place) (n : ℕ) (cs : List VisibleClaim) (k : ℕ) → false ≡ nat_lt k (length cs) → AreBehind i n cs k
-none_behind i n cs k over = λ j d lo hi.
-    let lt : k < length cs = omega (arith, lo, hi) in
-    let t = lt-ltb k (length cs) lt in
-    absurd (let b : false ≡ true = over ∙ t in cc)
-
-pub all_behind : (i : Place) (n : ℕ) (cs : List VisibleClaim) (k : ℕ) (c : VisibleClaim) → IsPartitionedBy (before i n) cs → true ≡ nat_lt k (length cs) → c ≡ slice_index_or cs k c
-    → before i n c ≡ false → AreBehind i n cs k
-all_behind i n cs k c parted inside is e = λ j d lo hi.
-    let same = is ∙ same_default cs k c d (ltb-true k (length cs) (sym inside)) in
-    let back = parted k j d lo hi in
-    go (before i n (slice_index_or cs j d)) (before i n (slice_index_or cs k d)) back (subst (λ z. before i n z ≡ false) same e)
-  where
-    go : (b f : Bool) → (b ≡ true → f ≡ true) → f ≡ false → b ≡ false
-    go false f back e = refl
-    go true f back e = let t : true ≡ false = sym (back refl) ∙ e in absurd cc
-
--- ---- what is found
-
--- the same list
-pub of_items : (a : Application) (xs ys : List VisibleClaim) → xs ≡ ys → AreClaims a ys → AreClaims a xs
-of_items a xs ys e are = subst (AreClaims a) (sym e) are
-
-at_has : {X : Type 0} (xs : List X) (k : ℕ) (d : X) → k < length xs → Has xs (slice_index_or xs k d)
-at_has [] k d lt = absurd (omega arith)
-at_has (x ∷ xs) zero d lt = inl refl
-at_has (x ∷ xs) (suc k) d lt = inr (at_has xs k d (omega (arith, lt)))
+front_of Equal Equal Less s e = e
+front_of Equal Equal Equal s e = refl
+front_of Equal Equal Greater s e = refl
 
 turned : (o p : Ordering) → p ≡ ordering_reverse o → is_lt o ≡ false → is_gt p ≡ false
 turned Less p e f = absurd cc
 turned Equal p e f = rw e refl
 turned Greater p e f = rw e refl
 
--- it is no zero that is greater
-not_below_zero : (m : ℕ) → is_lt (nat_cmp m 0) ≡ true → ⊥
-not_below_zero m e = let lt : m < 0 = ranked m 0 Less (sym (is_less (nat_cmp m 0) e)) in omega (arith, lt)
+not_less : (c d : VisibleClaim) → is_lt (by_claim d c) ≡ false → UpTo claim_cmp (counted (claim_at c)) (counted (claim_at d))
+not_less c d e =
+    let r = parts_of d c in
+    turned (claim_cmp (counted (claim_at d)) (counted (claim_at c))) (claim_cmp (counted (claim_at c)) (counted (claim_at d))) (claim_total.antisymm (counted (claim_at c)) (counted (claim_at d)))
+    (front_of (place_cmp (place_at d.source) (place_at c.source)) (nat_cmp d.output c.output) (place_cmp (place_at d.at) (place_at c.at)) r.0 (subst (λ o. is_lt o ≡ false) r.1 e))
 
-behind_tie : (o p : Ordering) → is_eq o ≡ true → is_lt (ordering_then o p) ≡ true → is_lt p ≡ true
-behind_tie Less p e f = absurd cc
-behind_tie Equal p e f = f
-behind_tie Greater p e f = absurd cc
+pub rise_in_order : (cs : List VisibleClaim) → IsSorted by_claim cs → DoRise cs
+rise_in_order cs up i j x y le at there = not_less x y
+    (subst (λ z. is_lt (by_claim z x) ≡ false) (get_or_from_slice_get cs j y x there)
+    (subst (λ z. is_lt (by_claim (slice_index_or cs j x) z) ≡ false) (get_or_from_slice_get cs i x x at)
+    (sorted_far (λ c d. is_lt (by_claim c d)) (ranks_by sorted-total (λ (c : VisibleClaim). c)) cs up i j x le (slice_get_within cs j y there))))
 
--- neither less nor tied
-greater : (o p : Ordering) → is_eq o ≡ false → is_lt (ordering_then o p) ≡ false → o ≡ Greater
-greater Less p e f = absurd cc
-greater Equal p e f = absurd cc
-greater Greater p e f = refl
+-- ---- among an application's claims of a source
 
-both_greater : (o p : Ordering) → (is_eq o && is_eq p) ≡ false → is_lt (ordering_then o p) ≡ false → ordering_then o p ≡ Greater
-both_greater Less p e f = absurd cc
-both_greater Greater p e f = refl
-both_greater Equal Less e f = absurd cc
-both_greater Equal Equal e f = absurd cc
-both_greater Equal Greater e f = refl
+module _ (a : Application) (apart : AreApart a) (i : Place) (cs : List VisibleClaim) (are : AreClaimsOf a i cs) where
+  source_at : (k : ℕ) (c : VisibleClaim) → slice_get cs k ≡ Some c → place_at c.source ≡ i
+  source_at k c at = (are.sound c (get_has cs k c at)).source
 
--- ---- whether a claim has a number of a source
+  same_source : (j k : ℕ) (c d : VisibleClaim) → slice_get cs j ≡ Some c → slice_get cs k ≡ Some d → place_at c.source ≡ place_at d.source
+  same_source j k c d at there = source_at j c at ∙ sym (source_at k d there)
 
-pub has_number : (i : Place) (n : ℕ) (c : VisibleClaim) → names i (claim_at c) ≡ true → c.output ≡ n → is_numbered i n (claim_at c) ≡ true
-has_number i n c source output = and_from (names i (claim_at c)) (is_eq (nat_cmp c.output n)) source (ap is_eq (nat_tied c.output n output))
+  pub numbers_rise : DoNumbersRise cs
+  numbers_rise j k c d le at there = outputs_rise (counted (claim_at c)) (counted (claim_at d)) (are.rise j k c d le at there) (same_source j k c d at there)
 
-pub of_another_source : (i : Place) (n : ℕ) (c : VisibleClaim) → names i (claim_at c) ≡ false → is_numbered i n (claim_at c) ≡ false
-of_another_source i n c source = ap (λ b. b && is_eq (nat_cmp c.output n)) source
+  module _ (test : PlacedClaim → Bool) {cmp : PlacedClaim → PlacedClaim → Ordering} (o : IsTotalOrder cmp) (tied : (c d : PlacedClaim) → cmp c d ≡ Equal → c.at ≡ d.at) (named : (c : PlacedClaim) → test c ≡ true → c.source ≡ i) where
+    of_claims : (c : PlacedClaim) → Has a.claims c → test c ≡ true → (d : VisibleClaim) × Has cs d × (claim_at d ≡ c)
+    of_claims c h e = map_has claim_at cs c (are.whole c (record { has = h; source = named c e }))
 
-pub has_another_number : (i : Place) (n : ℕ) (c : VisibleClaim) → (c.output ≡ n → ⊥) → is_numbered i n (claim_at c) ≡ false
-has_another_number i n c other = go (names i (claim_at c)) (is_eq (nat_cmp c.output n)) refl
-  where
-    go : (b e : Bool) → is_eq (nat_cmp c.output n) ≡ e → (b && e) ≡ false
-    go false e q = refl
-    go true false q = refl
-    go true true q = absurd (other (nat_exact c.output n (is_tied (nat_cmp c.output n) q)))
-
--- ---- among an application's claims
-
-module _ (a : Application) (apart : AreApart a) (cs : List VisibleClaim) (are : AreClaims a cs) where
-  of_claims : (c : PlacedClaim) → Has a.claims c → (d : VisibleClaim) × Has cs d × (claim_at d ≡ c)
-  of_claims c h = map_has claim_at cs c (are.whole c h)
-
-  module _ (test : PlacedClaim → Bool) {cmp : PlacedClaim → PlacedClaim → Ordering} (o : IsTotalOrder cmp) (tied : (c d : PlacedClaim) → cmp c d ≡ Equal → c.at ≡ d.at) where
     none_is : ((d : VisibleClaim) → Has cs d → test (claim_at d) ≡ true → ⊥) → None ≡ least_where test cmp a.claims
     none_is none = go (least_where test cmp a.claims) (least_is test o a.claims)
       where
         go : (w : Option PlacedClaim) → MatchOption w (NoneWhere test a.claims) (IsLeastWhere test cmp a.claims) → None ≡ w
         go None m = refl
-        go (Some t) m = let d = of_claims t m.has in absurd (none d.0 d.1 (subst (λ c. test c ≡ true) (sym d.2) m.holds))
+        go (Some t) m = let d = of_claims t m.has m.holds in absurd (none d.0 d.1 (subst (λ c. test c ≡ true) (sym d.2) m.holds))
 
     some_is : (c : VisibleClaim) → Has cs c → test (claim_at c) ≡ true → ((d : VisibleClaim) → Has cs d → test (claim_at d) ≡ true → UpTo cmp (claim_at c) (claim_at d))
         → Some (claim_at c) ≡ least_where test cmp a.claims
     some_is c h e least = go (least_where test cmp a.claims) (least_is test o a.claims)
       where
         here : Has a.claims (claim_at c)
-        here = are.sound (claim_at c) (has_map claim_at cs c h)
+        here = (are.sound c h).has
 
         go : (w : Option PlacedClaim) → MatchOption w (NoneWhere test a.claims) (IsLeastWhere test cmp a.claims) → Some (claim_at c) ≡ w
         go None m = absurd (m (claim_at c) here e)
         go (Some t) m =
-            let d = of_claims t m.has in
+            let d = of_claims t m.has m.holds in
             let low : UpTo cmp (claim_at c) t = subst (UpTo cmp (claim_at c)) d.2 (least d.0 d.1 (subst (λ z. test z ≡ true) (sym d.2) m.holds)) in
             let high = m.least (claim_at c) here e in
             ap Some (apart (claim_at c) t here m.has (tied (claim_at c) t (neither_greater o (claim_at c) t low high)))
@@ -221,119 +112,108 @@ module _ (a : Application) (apart : AreApart a) (cs : List VisibleClaim) (are : 
   at_tied : (c d : PlacedClaim) → at_cmp c d ≡ Equal → c.at ≡ d.at
   at_tied c d e = place_exact c.at d.at e
 
-  module _ (up : IsSorted by_claim cs) (i : Place) (n k : ℕ) (at : IsBound i n cs k) where
-    -- where the index is behind all
-    over : false ≡ nat_lt k (length cs) → (d : VisibleClaim) → Has cs d → before i n d ≡ true
-    over end d h = elim (cases_lt k (length cs)) [
-      | inl lt ↦ let t = lt-ltb k (length cs) lt in absurd (let b : false ≡ true = end ∙ t in cc)
-      | inr ge ↦ let r = has_index cs d h in let lt = r.1 in subst (λ c. before i n c ≡ true) (r.2 d) (at.0 r.0 d (omega arith) (omega (arith, lt, ge)))
-    ]
+  by_name : (c : PlacedClaim) → names i c ≡ true → c.source ≡ i
+  by_name c e = same_place_true c.source i e
 
-    module _ (c : VisibleClaim) (inside : true ≡ nat_lt k (length cs)) (is : c ≡ slice_index_or cs k c) where
-      lt : k < length cs
-      lt = ltb-true k (length cs) (sym inside)
-
-      there : Has cs c
-      there = subst (Has cs) (sym is) (at_has cs k c lt)
-
-      not_before : before i n c ≡ false
-      not_before = subst (λ z. before i n z ≡ false) (sym is) (at.1 k c (omega arith) lt)
-
-      before_or_up : (d : VisibleClaim) → Has cs d → (before i n d ≡ true) ⊎ (is_lt (by_claim d c) ≡ false)
-      before_or_up d h =
-          let r = has_index cs d h in
-          elim (cases_lt r.0 k) [
-            | inl less ↦ inl (subst (λ z. before i n z ≡ true) (r.2 d) (at.0 r.0 d (omega arith) less))
-            | inr ge ↦ inr (subst (λ z. is_lt (by_claim d z) ≡ false) (sym is) (subst (λ z. is_lt (by_claim z (slice_index_or cs k c)) ≡ false) (r.2 c) (far cs up k r.0 c ge r.1)))
-          ]
-
-  -- a claim of the source isn't before its number 0
-  not_first : (i : Place) (d : VisibleClaim) → names i (claim_at d) ≡ true → before i 0 d ≡ true → ⊥
-  not_first i d e b = not_below_zero d.output (behind_tie (place_cmp (place_at d.source) i) (nat_cmp d.output 0) e b)
-
-  not_numbered : (i : Place) (n : ℕ) (d : VisibleClaim) → is_numbered i n (claim_at d) ≡ true → before i n d ≡ true → ⊥
-  not_numbered i n d e b =
-      let r = both_from (names i (claim_at d)) (is_eq (nat_cmp d.output n)) e in
-      go (nat_cmp d.output n) r.1 (behind_tie (place_cmp (place_at d.source) i) (nat_cmp d.output n) r.0 b)
+  by_number : (n : ℕ) (c : PlacedClaim) → is_numbered i n c ≡ true → c.source ≡ i
+  by_number n c e = same_place_true c.source i (and_left (names i c) (is_eq (nat_cmp c.output n)) e)
     where
-      go : (p : Ordering) → is_eq p ≡ true → is_lt p ≡ true → ⊥
-      go Less e f = absurd cc
-      go Equal e f = absurd cc
-      go Greater e f = absurd cc
+      and_left : (x y : Bool) → (x && y) ≡ true → x ≡ true
+      and_left true y e = refl
+      and_left false y e = absurd cc
 
-  same_source : (i : Place) (c d : VisibleClaim) → names i (claim_at c) ≡ true → names i (claim_at d) ≡ true → place_cmp (place_at d.source) (place_at c.source) ≡ Equal
-  same_source i c d e f =
-      let p = same_place_true (place_at c.source) i e in
-      let q = same_place_true (place_at d.source) i f in
-      subst (λ z. place_cmp (place_at d.source) z ≡ Equal) (q ∙ sym p) (tied_itself place_total (place_at d.source))
+  number_of : (n : ℕ) (c : VisibleClaim) → Has cs c → is_numbered i n (claim_at c) ≡ true → c.output ≡ n
+  number_of n c h e = (numbered_is a.claims i n (claim_at c) (are.sound c h).has e).output
 
-  first_low : (i : Place) (c d : VisibleClaim) → names i (claim_at c) ≡ true → names i (claim_at d) ≡ true → is_lt (by_claim d c) ≡ false → UpTo number_cmp (claim_at c) (claim_at d)
-  first_low i c d e f up =
-      let r = parts_of d c in
-      turned (number_cmp (claim_at d) (claim_at c)) (number_cmp (claim_at c) (claim_at d)) (number_total.antisymm (claim_at c) (claim_at d))
-      (behind_one (place_cmp (place_at d.source) (place_at c.source)) (nat_cmp d.output c.output) (place_cmp (place_at d.at) (place_at c.at)) r.0 (same_source i c d e f) (subst (λ o. is_lt o ≡ false) r.1 up))
+  -- ---- the first of the source
 
-  numbered_low : (i : Place) (n : ℕ) (c d : VisibleClaim) → is_numbered i n (claim_at c) ≡ true → is_numbered i n (claim_at d) ≡ true → is_lt (by_claim d c) ≡ false → UpTo at_cmp (claim_at c) (claim_at d)
-  numbered_low i n c d e f up =
-      let p = both_from (names i (claim_at c)) (is_eq (nat_cmp c.output n)) e in
-      let q = both_from (names i (claim_at d)) (is_eq (nat_cmp d.output n)) f in
-      let m : c.output ≡ n = nat_exact c.output n (is_tied (nat_cmp c.output n) p.1) in
-      let l : d.output ≡ n = nat_exact d.output n (is_tied (nat_cmp d.output n) q.1) in
-      let r = parts_of d c in
-      let outputs : nat_cmp d.output c.output ≡ Equal = subst (λ z. nat_cmp d.output z ≡ Equal) (l ∙ sym m) (tied_itself nat_cmp_total d.output) in
-      let rest = behind_one (place_cmp (place_at d.source) (place_at c.source)) (nat_cmp d.output c.output) (place_cmp (place_at d.at) (place_at c.at)) r.0 (same_source i c d p.0 q.0) (subst (λ o. is_lt o ≡ false) r.1 up) in
-      turned (at_cmp (claim_at d) (claim_at c)) (at_cmp (claim_at c) (claim_at d)) (at_total.antisymm (claim_at c) (claim_at d))
-      (subst (λ o. is_lt (ordering_then o (place_cmp (place_at d.at) (place_at c.at))) ≡ false) outputs rest)
+  pub first_none : slice_get cs 0 ≡ None → None ≡ first_of a.claims i
+  first_none none = none_is (names i) number_total number_tied by_name (λ d h e. nobody cs none d h)
+    where
+      nobody : (ds : List VisibleClaim) → slice_get ds 0 ≡ None → (d : VisibleClaim) → Has ds d → ⊥
+      nobody [] e d h = h
+      nobody (c ∷ ds) e d h = absurd cc
 
-  -- where the claim at the index is of another source, or number, none is of these
-  no_first : (i : Place) (c d : VisibleClaim) → names i (claim_at c) ≡ false → before i 0 c ≡ false → names i (claim_at d) ≡ true → is_lt (by_claim d c) ≡ false → ⊥
-  no_first i c d e b f up =
-      let g = greater (place_cmp (place_at c.source) i) (nat_cmp c.output 0) e b in
-      let q = same_place_true (place_at d.source) i f in
-      let less : place_cmp (place_at d.source) (place_at c.source) ≡ Less = place_total.antisymm (place_at d.source) (place_at c.source) ∙ ap ordering_reverse (subst (λ z. place_cmp (place_at c.source) z ≡ Greater) (sym q) g) in
-      let k = key_up d c up in
-      let bad : is_lt (by_key (key_of d) (key_of c)) ≡ true = rw less refl in
-      (let b : true ≡ false = sym bad ∙ k in absurd cc)
+  pub first_some : (c : VisibleClaim) → slice_get cs 0 ≡ Some c → Some (claim_at c) ≡ first_of a.claims i
+  first_some c at = some_is (names i) number_total number_tied by_name c (get_has cs 0 c at) (true_same_place (place_at c.source) i (source_at 0 c at)) (λ d h e.
+      let r = has_get cs d h in
+      subst (λ o. is_gt o ≡ false) (same_number (claim_at c) (claim_at d) (same_source 0 r.0 c d at r.1)) (are.rise 0 r.0 c d (omega arith) at r.1))
 
-  no_numbered : (i : Place) (n : ℕ) (c d : VisibleClaim) → is_numbered i n (claim_at c) ≡ false → before i n c ≡ false → is_numbered i n (claim_at d) ≡ true → is_lt (by_claim d c) ≡ false → ⊥
-  no_numbered i n c d e b f up =
-      let q = both_from (names i (claim_at d)) (is_eq (nat_cmp d.output n)) f in
-      let source = same_place_true (place_at d.source) i q.0 in
-      let output : d.output ≡ n = nat_exact d.output n (is_tied (nat_cmp d.output n) q.1) in
-      let g : by_key (key_of c) (key i n) ≡ Greater = both_greater (place_cmp (place_at c.source) i) (nat_cmp c.output n) e b in
-      let same : key_of d ≡ key i n = λ j. key (source j) (output j) in
-      let less : by_key (key_of d) (key_of c) ≡ Less = key_total.antisymm (key_of d) (key_of c) ∙ ap ordering_reverse (subst (λ z. by_key (key_of c) z ≡ Greater) (sym same) g) in
-      let k = key_up d c up in
-      let bad : is_lt (by_key (key_of d) (key_of c)) ≡ true = rw less refl in
-      (let b : true ≡ false = sym bad ∙ k in absurd cc)
+  -- ---- the first of a number
 
-  module _ (up : IsSorted by_claim cs) (i : Place) (k : ℕ) where
-    pub first_over : IsBound i 0 cs k → false ≡ nat_lt k (length cs) → None ≡ first_of a.claims i
-    first_over at end = none_is (names i) number_total number_tied (λ d h e. not_first i d e (over up i 0 k at end d h))
+  numbered_some : (k : ℕ) (c : VisibleClaim) → slice_get cs k ≡ Some c → ((j : ℕ) (d : VisibleClaim) → j < k → slice_get cs j ≡ Some d → d.output ≢ c.output) → Some (claim_at c) ≡ first_at a.claims i c.output
+  numbered_some k c at none = some_is (is_numbered i c.output) at_total at_tied (by_number c.output) c (get_has cs k c at) (is_numbered_by i c.output (claim_at c) (source_at k c at) refl) (λ d h e.
+      let r = has_get cs d h in
+      let same : d.output ≡ c.output = number_of c.output d h e in
+      elim (cases_lt r.0 k) [
+        | inl lt ↦ absurd (none r.0 d lt r.1 same)
+        | inr ge ↦ elim (in_run (counted (claim_at c)) (counted (claim_at d)) (are.rise k r.0 c d ge at r.1) (same_source k r.0 c d at r.1)) [
+          | inl lt ↦ absurd (omega (arith, lt, same))
+          | inr q ↦ q.1
+        ]
+      ])
 
-    pub first_here : IsBound i 0 cs k → (c : VisibleClaim) → true ≡ nat_lt k (length cs) → c ≡ slice_index_or cs k c → names i (claim_at c) ≡ true → Some (claim_at c) ≡ first_of a.claims i
-    first_here at c inside is e = some_is (names i) number_total number_tied c (there up i 0 k at c inside is) e (λ d h f. elim (before_or_up up i 0 k at c inside is d h) [
-      | inl b ↦ absurd (not_first i d f b)
-      | inr u ↦ first_low i c d e f u
-    ])
+  pub first_begins : (c : VisibleClaim) → slice_get cs 0 ≡ Some c → IsFirstSoFar a i cs 0 c
+  first_begins c at = record {
+    index = 0;
+    within = omega arith;
+    at = at;
+    is_first = numbered_some 0 c at (λ j d lt. absurd (omega (arith, lt)));
+    greatest = λ j d lt. absurd (omega (arith, lt));
+  }
 
-    pub first_elsewhere : IsBound i 0 cs k → (c : VisibleClaim) → true ≡ nat_lt k (length cs) → c ≡ slice_index_or cs k c → names i (claim_at c) ≡ false → None ≡ first_of a.claims i
-    first_elsewhere at c inside is e = none_is (names i) number_total number_tied (λ d h f. elim (before_or_up up i 0 k at c inside is d h) [
-      | inl b ↦ not_first i d f b
-      | inr u ↦ no_first i c d e (not_before up i 0 k at c inside is) f u
-    ])
+  same_item : {X : Type 0} (x y : X) → Some x ≡ Some y → x ≡ y
+  same_item x y e = cc
 
-    pub numbered_over : (n : ℕ) → IsBound i n cs k → false ≡ nat_lt k (length cs) → None ≡ first_at a.claims i n
-    numbered_over n at end = none_is (is_numbered i n) at_total at_tied (λ d h e. not_numbered i n d e (over up i n k at end d h))
+  -- one claim further
+  pub first_next : (k : ℕ) (before c first : VisibleClaim) → IsFirstSoFar a i cs k before → slice_get cs k ≡ Some c → IsNextFirst before c first → IsFirstSoFar a i cs (k + 1) first × (first.output ≡ c.output)
+  first_next k before c first so_far at (inl e) =
+      (subst (IsFirstSoFar a i cs (k + 1)) (sym e.1) stays, ap (λ (z : VisibleClaim). z.output) e.1 ∙ sym e.0)
+    where
+      stays : IsFirstSoFar a i cs (k + 1) before
+      stays = record {
+        index = so_far.index;
+        within = let le = so_far.within in omega (arith, le);
+        at = so_far.at;
+        is_first = so_far.is_first;
+        greatest = λ j d lt there. elim (cases_lt j k) [
+          | inl l ↦ so_far.greatest j d l there
+          | inr ge ↦
+              let here : j ≡ k = omega (arith, lt, ge) in
+              let same : d ≡ c = same_item d c (sym there ∙ (ap (slice_get cs) here ∙ at)) in
+              let n : d.output ≡ c.output = ap (λ (z : VisibleClaim). z.output) same in
+              let m = e.0 in
+              omega (arith, n, m)
+        ];
+      }
+  first_next k before c first so_far at (inr e) =
+      (subst (IsFirstSoFar a i cs (k + 1)) (sym e.1) moves, ap (λ (z : VisibleClaim). z.output) e.1)
+    where
+      up : before.output ≤ c.output
+      up = numbers_rise so_far.index k before c so_far.within so_far.at at
 
-    pub numbered_here : (n : ℕ) → IsBound i n cs k → (c : VisibleClaim) → true ≡ nat_lt k (length cs) → c ≡ slice_index_or cs k c → is_numbered i n (claim_at c) ≡ true → Some (claim_at c) ≡ first_at a.claims i n
-    numbered_here n at c inside is e = some_is (is_numbered i n) at_total at_tied c (there up i n k at c inside is) e (λ d h f. elim (before_or_up up i n k at c inside is d h) [
-      | inl b ↦ absurd (not_numbered i n d f b)
-      | inr u ↦ numbered_low i n c d e f u
-    ])
+      moves : IsFirstSoFar a i cs (k + 1) c
+      moves = record {
+        index = k;
+        within = omega arith;
+        at = at;
+        is_first = numbered_some k c at (λ j d lt there same.
+            let le = so_far.greatest j d lt there in
+            e.0 (omega (arith, up, le, same)));
+        greatest = λ j d lt there. numbers_rise j k d c (omega (arith, lt)) there at;
+      }
 
-    pub numbered_elsewhere : (n : ℕ) → IsBound i n cs k → (c : VisibleClaim) → true ≡ nat_lt k (length cs) → c ≡ slice_index_or cs k c → is_numbered i n (claim_at c) ≡ false → None ≡ first_at a.claims i n
-    numbered_elsewhere n at c inside is e = none_is (is_numbered i n) at_total at_tied (λ d h f. elim (before_or_up up i n k at c inside is d h) [
-      | inl b ↦ not_numbered i n d f b
-      | inr u ↦ no_numbered i n c d e (not_before up i n k at c inside is) f u
-    ])
+  -- ---- the numbers that are there
+
+  pub there_is : (n : ℕ) → HasNumber cs n → is_there a.claims i n ≡ true
+  there_is n h = go (first_at a.claims i n) refl
+    where
+      named : is_numbered i n (claim_at h.0) ≡ true
+      named = is_numbered_by i n (claim_at h.0) (are.sound h.0 h.1).source h.2
+
+      go : (w : Option PlacedClaim) → first_at a.claims i n ≡ w → is_some w ≡ true
+      go None e = absurd (by_least (is_numbered i n) at_total a.claims None e (claim_at h.0) (are.sound h.0 h.1).has named)
+      go (Some c) e = refl
+
+  pub not_there : (n : ℕ) → (HasNumber cs n → ⊥) → is_there a.claims i n ≡ false
+  not_there n lacks = ap is_some (sym (none_is (is_numbered i n) at_total at_tied (by_number n) (λ d h e. lacks (d, h, number_of n d h e))))

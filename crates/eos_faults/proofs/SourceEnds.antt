@@ -11,16 +11,16 @@ use Rattle.std.proofs.lemmas.List.Sorted.{sorted_far}
 use Rattle.std.proofs.lemmas.List.MinMax.{ranks_by}
 use Rattle.eos_base.specs.Least.{UpTo}
 use Rattle.eos_claims.specs.declared.place.Place.{Place}
+use Rattle.eos_claims.specs.Candidates.{claim_cmp, counted}
 use Rattle.eos_claims.specs.Faults.{place_cmp}
 use Rattle.eos_claims.proofs.FaultOrder.{place_exact, place_total}
 use Rattle.eos_faults.specs.declared.lent.LentPlace.{LentPlace}
 use Rattle.eos_faults.specs.declared.lent.VisibleClaim.{VisibleClaim}
 use Rattle.eos_faults.specs.contracts.lent.LentPlaceOrd.TheImpl.Laws.{total-law as place-total}
-use Rattle.eos_faults.specs.contracts.lent.VisibleClaimOrd.TheImpl.Laws.{total-law as claim-total}
-use Rattle.eos_faults.specs.steps.Plain.{place_at}
+use Rattle.eos_faults.specs.steps.Plain.{claim_at, place_at}
 use Rattle.eos_faults.specs.steps.Tables.{by_claim}
 use Rattle.eos_faults.specs.steps.BySource.{AllFrom, IsEndOf, IsNext, by_lent, itself, source_of}
-use Rattle.eos_faults.proofs.SortedClaims.{key_up}
+use Rattle.eos_faults.proofs.SortedClaims.{rise_in_order}
 
 -- of two places that aren't in falling order, where the first is behind this one, so is the second
 behind : (s p q : Place) → place_cmp s p ≡ Less → is_lt (place_cmp q p) ≡ false → place_cmp s q ≡ Less
@@ -52,7 +52,7 @@ an_item xs k x inside is = slice_get_read xs (length xs) k x refl (ltb-true k (l
 
 -- ---- the end
 
-abbrev Rises : {X : Type 0} → (X → LentPlace) → List X → Type 0
+abbrev pub Rises : {X : Type 0} → (X → LentPlace) → List X → Type 0
 Rises {X} of xs = (i j : ℕ) (x y : X) → i ≤ j → slice_get xs i ≡ Some x → slice_get xs j ≡ Some y → is_lt (place_cmp (place_at (of y)) (place_at (of x))) ≡ false
 
 module _ {X : Type 0} (of : X → LentPlace) (xs : List X) (s : LentPlace) where
@@ -111,8 +111,8 @@ progress cs is j k p q s next claims inputs = go (slice_get cs j) (slice_get is 
     go None None e f h = absurd cc
     go (Some c) None e f h = inl (further_on source_of cs j p s c e (inside s c.source h) claims)
     go None (Some i) e f h = inr (further_on itself is k q s i f (inside s i h) inputs)
-    go (Some c) (Some i) e f (inl h) = inl (further_on source_of cs j p s c e (inside s c.source h) claims)
-    go (Some c) (Some i) e f (inr h) = inr (further_on itself is k q s i f (inside s i h) inputs)
+    go (Some c) (Some i) e f (inl h) = inl (further_on source_of cs j p s c e (inside s c.source h.0) claims)
+    go (Some c) (Some i) e f (inr h) = inr (further_on itself is k q s i f (inside s i h.0) inputs)
 
 -- where there is no next source, both are passed
 pub all_passed : (cs : List VisibleClaim) (is : List LentPlace) (j k : ℕ) → j ≤ length cs → k ≤ length is → IsNext (slice_get cs j) (slice_get is k) None → (j ≡ length cs) × (k ≡ length is)
@@ -133,24 +133,21 @@ all_passed cs is j k within inside next = go (slice_get cs j) (slice_get is k) r
     go None None e f h = (at_end cs j within e, at_end is k inside f)
     go (Some c) None e f h = absurd cc
     go None (Some i) e f h = absurd cc
-    go (Some c) (Some i) e f (inl h) = absurd cc
-    go (Some c) (Some i) e f (inr h) = absurd cc
+    go (Some c) (Some i) e f (inl h) = let none = h.0 in absurd cc
+    go (Some c) (Some i) e f (inr h) = let none = h.0 in absurd cc
 
 -- ---- in their order
 
 pub claims_rise : (cs : List VisibleClaim) → IsSorted by_claim cs → Rises source_of cs
-claims_rise cs up i j x y le at there = source_up y x
-    (subst (λ z. is_lt (by_claim z x) ≡ false) (get_or_from_slice_get cs j y x there)
-    (subst (λ z. is_lt (by_claim (slice_index_or cs j x) z) ≡ false) (get_or_from_slice_get cs i x x at)
-    (sorted_far (λ c d. is_lt (by_claim c d)) (ranks_by claim-total (λ (c : VisibleClaim). c)) cs up i j x le (slice_get_within cs j y there))))
+claims_rise cs up i j x y le at there = source_up (rise_in_order cs up i j x y le at there)
   where
-    source_up : (c d : VisibleClaim) → is_lt (by_claim c d) ≡ false → is_lt (place_cmp (place_at c.source) (place_at d.source)) ≡ false
-    source_up c d e = front (place_cmp (place_at c.source) (place_at d.source)) _ (key_up c d e)
-      where
-        front : (o p : Ordering) → is_lt (ordering_then o p) ≡ false → is_lt o ≡ false
-        front Less p e = e
-        front Equal p e = refl
-        front Greater p e = refl
+    not_less : (o p q : Ordering) → q ≡ ordering_reverse o → is_gt (ordering_then o p) ≡ false → is_lt q ≡ false
+    not_less Less p q e u = rw e refl
+    not_less Equal p q e u = rw e refl
+    not_less Greater p q e u = absurd cc
+
+    source_up : UpTo claim_cmp (counted (claim_at x)) (counted (claim_at y)) → is_lt (place_cmp (place_at y.source) (place_at x.source)) ≡ false
+    source_up u = not_less (place_cmp (place_at x.source) (place_at y.source)) _ (place_cmp (place_at y.source) (place_at x.source)) (place_total.antisymm (place_at y.source) (place_at x.source)) u
 
 pub inputs_rise : (is : List LentPlace) → IsSorted by_lent is → Rises itself is
 inputs_rise is up i j x y le at there =

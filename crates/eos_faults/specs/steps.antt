@@ -6,3 +6,4 @@ pub mod Taken
 pub mod Found
 pub mod Walks
 pub mod BySource
+pub mod SourceClaims

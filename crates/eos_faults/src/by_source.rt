@@ -1,17 +1,15 @@
 //! The faults of one application's outputs, source by source, so that no list of all is held.
 
-ghost use Rattle.std.specs.Prelude.{◌≡◌, ◌≤◌, length, map, option_map, List, IfOk, IfSome, OnOk, IsSorted, slice_get};
+ghost use Rattle.std.specs.Prelude.{◌≤◌, length, map, option_map, List, OnOk, IsSorted, slice_get};
 ghost use Rattle.eos_claims.specs.declared.fault.OutputFault.{OutputFault};
 ghost use Rattle.eos_claims.specs.Outputs.{Application, ReadsSources};
 ghost use Rattle.eos_verdict.specs.declared.verdict.Fault.TheVariants.{Lineage};
 ghost use Rattle.eos_faults.specs.Sinks.{TakesAll};
 ghost use Rattle.eos_faults.specs.steps.BySource.{IsEndOf, IsNext, itself, source_of, by_lent};
-ghost use Rattle.eos_faults.specs.steps.OutputFaultsGathered.{gathered_by, AreOutputFaults};
-ghost use Rattle.eos_faults.specs.steps.Plain.{claim_at, fault_of, place_at};
-ghost use Rattle.eos_faults.specs.steps.Tables.{AreTables, AreInputs, by_claim};
+ghost use Rattle.eos_faults.specs.steps.OutputFaultsGathered.{AreOutputFaults};
+ghost use Rattle.eos_faults.specs.steps.Tables.{AreTables, by_claim};
 ghost use Rattle.eos_faults.specs.steps.Taken.{in_group, named_in};
 
-use crate::claims::Marks;
 use crate::lent::{LentFault, LentPlace, VisibleClaim};
 use crate::outputs::LentOutput;
 use crate::shown_by_claims::found;
@@ -100,11 +98,10 @@ pub(crate) fn faults_by_source<'a, S: FaultSink>(
     sink: &mut S,
 ) -> Result<(), AllocError>
     ensures { OnOk result ((list : List OutputFault) × TakesAll S.takes sink.old (map Lineage (map (in_group (option_map (λ g. g.now) group.entry)) list)) sink.new
-        × ((a : Application) → ReadsSources a → AreTables a tables.now → AreInputs a tables.now.inputs → AreOutputFaults a list)) }
+        × ((a : Application) → ReadsSources a → AreTables a tables.now → AreOutputFaults a list)) }
 {
     let claims = tables.claims.as_slice();
     let inputs = tables.inputs.as_slice();
-    let mut marks = Marks::new();
     let mut claim = 0;
     let mut input = 0;
     while let Some(source) = next_source(claims, claim, inputs, input) {
@@ -112,7 +109,7 @@ pub(crate) fn faults_by_source<'a, S: FaultSink>(
         let last_input = end_of_inputs(inputs, input, &source);
         let mine = &claims[claim..last_claim];
         let read = &inputs[input..last_input];
-        let faults = found(alloc, tables, &mut marks, mine, read)?;
+        let faults = found(alloc, tables, &source, mine, read)?;
         hand_on(alloc, group, distinct_in_order(faults), sink)?;
         claim = last_claim;
         input = last_input;

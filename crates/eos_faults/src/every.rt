@@ -12,7 +12,7 @@ ghost use Rattle.eos_verdict.specs.declared.lineage_fault.LineageFault.{LineageF
 ghost use Rattle.eos_verdict.specs.declared.verdict.Fault.TheVariants.{Lineage};
 ghost use Rattle.eos_faults.specs.LineageFaults.{AreLineageFaults};
 ghost use Rattle.eos_faults.specs.Sinks.{TakesAll};
-ghost use Rattle.eos_faults.specs.steps.Tables.{AreInputs, AreTables};
+ghost use Rattle.eos_faults.specs.steps.Tables.{AreTables};
 
 use crate::by_source::faults_by_source;
 use crate::commits::{offsets_of, reached_by};
@@ -33,8 +33,7 @@ fn tables_of<'a>(
     parts: &'a [Part],
 ) -> Result<Tables<'a>, AllocError>
     requires { (apps : List App) × IsTableOf apps parts.now table.now × Has apps app.now }
-    ensures tables { AreInOrder parts.now → IfOk result (AreTables (application_of app.now parts.now)) }
-    ensures inputs { IfOk result (λ tables. AreInputs (application_of app.now parts.now) tables.inputs) }
+    ensures { AreInOrder parts.now → IfOk result (AreTables (application_of app.now parts.now)) }
 {
     let sources = TopicSet::of(alloc, app.sources.as_slice())?;
     let outputs = TopicSet::of(alloc, app.outputs.as_slice())?;
@@ -68,7 +67,7 @@ fn group_of<'a>(apps: &[App], app: &'a App) -> Option<&'a GroupId>
 /// has the first alone. None where each application's outputs are exact; else the first is that of `check_lineage`.
 ///
 /// The parts are those of all topics, without a fault of their own, ordered by name. The work is that of `check_lineage` by one
-/// thread, and look-ups among the claims in order; the memory is that of all claims and inputs of one application, and of the faults
+/// thread, and a walk along claims and inputs in order; the memory is that of all claims and inputs of one application, and of the faults
 /// of one source, whose names are lent.
 ///
 /// # Errors

@@ -7,7 +7,7 @@ ghost use Rattle.eos_faults.specs.steps.Walks.{HasPassed, Passes, Stops, HasPass
 use crate::walk::Walk;
 use bytes::Bytes;
 use eos_evidence::Segment;
-use eos_fold::{Stop, begin_of, is_at_end, read_head, refusal};
+use eos_fold::{Stop, begin_of, front_head, is_at_end};
 use eos_wire::are_bytes;
 use std::alloc::{AllocError, Global};
 
@@ -24,23 +24,12 @@ fn pass_next(
     ensures passed { (sequenced : Bool) (front : List Batch) → HasPassed sequenced front walk.old →
         IfOk result (λ passed. MatchResult passed (Passes sequenced front bytes.now at walk.new) (Stops sequenced front begin bytes.now at walk.new)) }
 {
-    are_bytes(bytes.as_slice());
-    match read_head(alloc, bytes, at) {
+    match front_head(alloc, bytes, at, begin, walk.next)? {
         Ok(head) => {
-            if head.offset != walk.next {
-                return Ok(Err(Stop::Elsewhere { found: head.offset }));
-            }
             walk.pass(&head)?;
             Ok(Ok(head.size))
         }
-        Err(fault) => {
-            let fault = refusal(fault)?;
-            Ok(Err(Stop::NoBatch {
-                segment: begin,
-                byte: at as u64,
-                fault,
-            }))
-        }
+        Err(stop) => Ok(Err(stop)),
     }
 }
 

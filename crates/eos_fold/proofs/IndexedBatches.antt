@@ -1,7 +1,6 @@
 -- One batch, opened and then read to its end.
 use Rattle.std.proofs.Common.{◌≡◌, ℕ, ◌-◌, false, List, length, drop, None, Result, Ok, Err, refl, sym, ap, ◌∙◌}
 use Rattle.eos_batch.specs.declared.fault.BatchFault.{BatchFault}
-use Rattle.eos_batch.specs.declared.fault.BatchFault.TheVariants as faults
 use Rattle.eos_batch.specs.declared.batch.Batch.{Batch}
 use Rattle.eos_batch.specs.declared.record.Record.{Record}
 use Rattle.eos_batch.specs.declared.walk.Opened.{Opened}

@@ -27,3 +27,4 @@ pub mod GoodSegment
 pub mod FedSteps
 pub mod MoreBytes
 pub mod MoreSplits
+pub mod FrontHeads

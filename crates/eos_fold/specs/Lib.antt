@@ -1,6 +1,7 @@
 pub mod Closes
 pub mod Parts
 pub mod Fronts
+pub mod FrontHeads
 pub mod Sums
 pub mod Standing
 pub mod Whole

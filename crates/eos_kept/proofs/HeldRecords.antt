@@ -27,7 +27,7 @@ use Rattle.eos_claims.specs.declared.claim.Claim.{Claim}
 use Rattle.eos_reading.specs.Outputs.{KeptOutput, claim_kept}
 use Rattle.eos_reading.specs.Records.{record_of, wanted_record, ReadsBack}
 use Rattle.eos_kept.specs.Items.{items_at, items_under, Fits}
-use Rattle.eos_kept.specs.Parts.{AllKept}
+use Rattle.eos_kept.specs.steps.Made.{AllKept}
 use Rattle.eos_kept.specs.Records.{output_record, SaysClaim, SayClaims}
 use Rattle.eos_kept.specs.steps.Fronts.{records_of, AreEach, IsApart}
 use Rattle.eos_kept.proofs.ItemsWanted.{items_wanted}

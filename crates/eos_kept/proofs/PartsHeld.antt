@@ -1,7 +1,6 @@
 -- A partition that is held in memory, made of what is kept of its segments, one after the other.
-use Rattle.std.proofs.Common.{◌≡◌, ℕ, ℤ, ◌+◌, ◌<◌, not, List, [], ◌∷◌, ◌++◌, take, length, get_or, Option, Some, None, Result, Ok, Err, refl, sym, ap, subst, ◌∙◌, append-nil}
-use Rattle.std.specs.Prelude.{IfOk, bytes_eq}
-use Rattle.std.specs.Io.KnownBytes.{Consumes, IsAtEnd}
+use Rattle.std.proofs.Common.{◌≡◌, ℕ, ℤ, ◌+◌, ◌<◌, ◌≤◌, ◌^◌, not, List, [], ◌∷◌, ◌++◌, take, length, get_or, Option, Some, None, Result, Ok, Err, sym, ap, subst, ◌∙◌}
+use Rattle.std.specs.Prelude.{All, IfOk, bytes_eq}
 use Rattle.std.specs.List.{AllByRecursion}
 use Rattle.std.specs.Ordering.{int_eq}
 use Rattle.std.proofs.lemmas.List.{take_more}
@@ -23,7 +22,8 @@ use Rattle.eos_kept.specs.declared.part.Told.{Told}
 use Rattle.eos_kept.specs.Kept.{KeptView}
 use Rattle.eos_kept.specs.KeptRuns.{IsKeptRun, wanted_by, front_of, HasClaims, AreKeptRun, IsWantedBy, HaveClaims}
 use Rattle.eos_kept.specs.steps.Held.{Asking, IsHeld, AreHeld}
-use Rattle.eos_kept.specs.Parts.{AreKept, IsTold, IsMade}
+use Rattle.eos_kept.specs.Parts.{IsTold}
+use Rattle.eos_kept.specs.steps.Made.{AreKept, IsMade}
 
 -- ---- what is asked of all segments of a partition
 
@@ -46,12 +46,17 @@ named_own e (s ∷ ss) h =
 pub are_of : (p : Partition) → IsPartition p → AreOf p.end.topic p.end.partition p.segments
 are_of p h = named_own p.end p.segments h.own
 
--- ---- one segment
+-- none is larger than a segment may be
+small_own : (e : End) (ss : List Segment) → AllByRecursion (IsOwn e) ss → All (λ (s : Segment). length s.bytes ≤ 2 ^ 30) ss
+small_own e [] h = All-nil (λ (s : Segment). length s.bytes ≤ 2 ^ 30)
+small_own e (s ∷ ss) h = All-cons (λ (s : Segment). length s.bytes ≤ 2 ^ 30) s ss h.0.size (small_own e ss h.1)
 
--- all of these bytes were read
-pub all_of : (whole : List ℕ) (left : Option (List ℕ)) (bytes : List ℕ) → Consumes (Some whole) left bytes → IsAtEnd left → bytes ≡ whole
-all_of whole None bytes c e = absurd c
-all_of whole (Some ys) bytes c e = sym (c ∙ (ap (λ (l : List ℕ). bytes ++ l) e ∙ append-nil bytes))
+pub is_small : (p : Partition) (segments : List Segment) (i : ℕ) (s : Segment) → IsPartition p → segments ≡ p.segments → i < length segments → s ≡ get_or segments i s → length s.bytes ≤ 2 ^ 30
+is_small p segments i s h same lt is =
+    let small : All (λ (x : Segment). length x.bytes ≤ 2 ^ 30) segments = subst (All (λ (x : Segment). length x.bytes ≤ 2 ^ 30)) (sym same) (small_own p.end p.segments h.own) in
+    subst (λ (x : Segment). length x.bytes ≤ 2 ^ 30) (sym is) (small i s lt)
+
+-- ---- one segment
 
 -- whether sequences are checked is known of the first segment
 pub checked_so : (topics : List (List ℕ)) (s : Segment) (ss : List Segment) (run : KeptRun) → IsKeptRun topics (s ∷ ss) run → (front_of run).run.sequenced ≡ not (is_internal s.topic)
@@ -84,12 +89,9 @@ joined a xs ys before after both ok w c claims h k =
       asked = record { wanted = w ∙ h.asked.wanted; claims = claims a.topics h.asked.claims k.asked.claims; checked = c ∙ h.asked.checked };
     }
 
--- a segment whose bytes were read to their end
-pub one_held : (a : Asking) (s : Segment) (new : Option (List ℕ)) (run : KeptRun) (bytes : List ℕ) → a.topic ≡ s.topic → Consumes (Some s.bytes) new bytes → IsAtEnd new
-    → wanted_by run ≡ a.wanted → HasClaims a.topics run
-    → ((t : Segment) → t.topic ≡ s.topic → t.base ≡ s.base → t.bytes ≡ bytes → IsKeptRun a.topics (t ∷ []) run) → IsHeld a (s ∷ []) run
-one_held a s new run bytes e c at w claims k =
-    let kept : IsKeptRun a.topics (s ∷ []) run = k s refl refl (sym (all_of s.bytes new bytes c at)) in
+-- a segment, as it was asked
+pub one_held : (a : Asking) (s : Segment) (run : KeptRun) → a.topic ≡ s.topic → wanted_by run ≡ a.wanted → HasClaims a.topics run → IsKeptRun a.topics (s ∷ []) run → IsHeld a (s ∷ []) run
+one_held a s run e w claims kept =
     record { kept = kept; asked = record { wanted = w; claims = claims; checked = checked_so a.topics s [] run kept ∙ ap (λ (t : List ℕ). not (is_internal t)) (sym e) } }
 
 -- what is asked of the topic of one of a partition's segments is what is asked of the partition's

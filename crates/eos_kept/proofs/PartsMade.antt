@@ -47,7 +47,8 @@ use Rattle.eos_reading.proofs.ExactClaims.{exact_claim}
 use Rattle.eos_reading.proofs.ClaimHeaders.{back}
 use Rattle.eos_kept.specs.declared.records.Records.{Records}
 use Rattle.eos_reading.specs.declared.epoch.EpochEntry.{EpochEntry}
-use Rattle.eos_kept.specs.Parts.{AreKept, HasBatches, HasEpochs, IsWantedPart}
+use Rattle.eos_kept.specs.Parts.{HasBatches, HasEpochs, IsWantedPart}
+use Rattle.eos_kept.specs.steps.Made.{AreKept}
 use Rattle.eos_kept.specs.steps.Closes.{closes_under}
 use Rattle.eos_kept.specs.steps.Fronts.{AreRead, IsWholeFront, AreWhole, IsChecked, IsApart}
 use Rattle.eos_kept.specs.declared.kept_run.KeptRun.{KeptRun}

@@ -1,9 +1,8 @@
 -- What is said of a partition of which is kept what is wanted of its log: there is the log of its segments, and this is what is
 -- wanted of it. Its least fault, its batches, how large its segments are, and where its leader epoch changes, is told beside it, since
 -- it is said of their bytes.
-use Rattle.std.specs.Prelude.{◌≡◌, ℕ, List, [], ◌∷◌, length, Option, Some, None, All, ⊤}
+use Rattle.std.specs.Prelude.{◌≡◌, ℕ, List, [], ◌∷◌, length, Option, None, ⊤}
 use Rattle.eos_batch.specs.declared.batch.Batch.{Batch}
-use Rattle.eos_batch.specs.declared.record.Record.{Record}
 use Rattle.eos_evidence.specs.declared.partition.Partition.{Partition}
 use Rattle.eos_evidence.specs.declared.segment.Segment.{Segment}
 use Rattle.eos_evidence.specs.declared.ends.End.{End}
@@ -12,25 +11,13 @@ use Rattle.eos_fold.specs.declared.stop.Stop.{Stop}
 use Rattle.eos_fold.specs.Fronts.{IsFront}
 use Rattle.eos_fold.specs.LeastFaults.{IsFaultIn}
 use Rattle.eos_fold.specs.Parts.{PartLog}
-use Rattle.eos_fold.specs.Standing.{AreOf}
 use Rattle.eos_fold.specs.Whole.{IsPartOf}
 use Rattle.eos_reading.specs.declared.epoch.EpochEntry.{EpochEntry}
 use Rattle.eos_reading.specs.Epochs.{epoch_entries}
-use Rattle.eos_kept.specs.Kept.{KeptView, IsKept}
 use Rattle.eos_kept.specs.Sizes.{AreSized}
 use Rattle.eos_reading.specs.declared.wanted.Wanted.{Wanted}
 use Rattle.eos_reading.specs.Wanted.{wanted_log}
 use Rattle.eos_kept.specs.declared.part.Told.{Told}
-
--- what is kept of these segments, or there are none
-abbrev pub AreKept : {K : Type 0} → (ℕ → Record → K) → List Segment → Option (KeptView K) → Type 0
-AreKept keep segments None = segments ≡ []
-AreKept keep segments (Some kept) = IsKept keep segments kept
-
--- of all that is kept
-abbrev pub AllKept : {K : Type 0} → (K → Type 0) → Option (KeptView K) → Type 0
-AllKept P None = ⊤
-AllKept P (Some kept) = All P kept.kept
 
 -- what is wanted of the log of these segments, and the least fault that stands in it
 pub record IsWantedPart (w : Wanted) (end : End) (segments : List Segment) (part : PartLog) (fault : Option PartitionFault) : Type 0 where
@@ -66,7 +53,3 @@ pub record IsTold (w : Wanted) (end : End) (segments : List Segment) (told : Tol
   pub batches : HasBatches segments told.batches
   pub sizes : AreSized segments told.sizes
   pub epochs : HasEpochs segments told.epochs
-
--- so it is for all segments of this partition of which this is kept
-abbrev pub IsMade : {K : Type 0} → Wanted → (ℕ → Record → K) → End → Option (KeptView K) → Told → Type 0
-IsMade w keep end run told = (segments : List Segment) → AreKept keep segments run → AreOf end.topic end.partition segments → IsTold w end segments told

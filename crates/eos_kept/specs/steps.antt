@@ -6,4 +6,5 @@ pub mod Taking
 pub mod Closes
 pub mod Counts
 pub mod Fronts
+pub mod Made
 pub mod Held

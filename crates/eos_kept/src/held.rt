@@ -1,30 +1,46 @@
 //! A partition whose segments are held in memory.
 
-ghost use Rattle.std.specs.Prelude.{◌∷◌, [], ◌++◌, List, IfOk};
+ghost use Rattle.std.specs.Prelude.{◌≤◌, ◌∷◌, [], ◌++◌, List, length, IfOk};
 ghost use Rattle.eos_evidence.specs.Evidence.{IsPartition};
 ghost use Rattle.eos_evidence.specs.declared.segment.Segment.{Segment};
 ghost use Rattle.eos_kept.specs.steps.Held.{Asking, AreHeld, IsHeld};
 ghost use Rattle.eos_kept.specs.Parts.{IsTold};
 
+use crate::segment::keep_bytes;
 use crate::told::told_of;
 use crate::{Asked, KeptRun, Told};
-use eos_evidence::{Partition, Segment};
+use eos_evidence::{MAX_SEGMENT_BYTES, Partition, Segment};
+use eos_reading::{Nothing, Outputs, Texts, Wanted};
 use std::alloc::{AllocError, Global};
 
 /// What is kept of one segment.
 fn read_held(alloc: Global, asked: Asked<'_>, segment: &Segment) -> Result<KeptRun, AllocError>
+    requires { length segment.now.bytes ≤ MAX_SEGMENT_BYTES }
     ensures { IfOk result (IsHeld (record { topics = asked.entry.topics.now; wanted = asked.entry.wanted; topic = segment.now.topic }) (segment.now ∷ [])) }
 {
-    let mut bytes = segment.bytes.as_slice();
-    match KeptRun::read(
-        alloc,
-        asked,
-        segment.topic.as_slice(),
-        segment.base,
-        &mut bytes,
-    ) {
-        Ok(run) => Ok(run),
-        Err(_) => Err(AllocError),
+    let Segment {
+        topic,
+        base,
+        bytes,
+        ..
+    } = segment;
+    let topic = topic.as_slice();
+    match asked.wanted {
+        Wanted::Presence => {
+            let kept = keep_bytes(alloc, Nothing, topic, *base, bytes)?;
+            Ok(KeptRun::Presence(kept))
+        }
+        Wanted::Claims => {
+            let outputs = Outputs {
+                topics: asked.topics,
+            };
+            let kept = keep_bytes(alloc, outputs, topic, *base, bytes)?;
+            Ok(KeptRun::Claims(kept))
+        }
+        Wanted::Texts => {
+            let kept = keep_bytes(alloc, Texts, topic, *base, bytes)?;
+            Ok(KeptRun::Texts(kept))
+        }
     }
 }
 

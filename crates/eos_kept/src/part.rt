@@ -5,7 +5,7 @@ ghost use Rattle.eos_claims.specs.Headers.{claim_of};
 ghost use Rattle.eos_fold.specs.Parts.{Rises, Ascends};
 ghost use Rattle.eos_reading.specs.Outputs.{kept_output, claim_kept};
 ghost use Rattle.eos_reading.specs.Records.{wanted_record, ReadsBack};
-ghost use Rattle.eos_kept.specs.Parts.{AllKept, IsMade};
+ghost use Rattle.eos_kept.specs.steps.Made.{AllKept, IsMade};
 ghost use Rattle.eos_kept.specs.steps.Fronts.{AreEach, IsPartFrom};
 ghost use Rattle.eos_kept.specs.Records.{records_in, ReadBack, SaysClaim, SayClaims};
 ghost use Rattle.eos_reading.specs.declared.wanted.Wanted.TheVariants.{Presence, Claims, Texts};
@@ -105,7 +105,7 @@ impl Part {
     ///
     /// # Errors
     /// Only want of memory.
-    pub fn of_presence(
+    pub(crate) fn of_presence(
         alloc: Global,
         end: End,
         run: Option<Kept<Vec<()>>>,
@@ -121,7 +121,7 @@ impl Part {
     ///
     /// # Errors
     /// Only want of memory.
-    pub fn of_outputs(
+    pub(crate) fn of_outputs(
         alloc: Global,
         end: End,
         topics: Vec<Bytes>,
@@ -138,7 +138,7 @@ impl Part {
     ///
     /// # Errors
     /// Only want of memory.
-    pub fn of_texts(
+    pub(crate) fn of_texts(
         alloc: Global,
         end: End,
         run: Option<Kept<KeptTexts>>,

@@ -1,4 +1,4 @@
-//! One segment, from its reader.
+//! One segment, from its reader or where its bytes are held.
 
 ghost use Rattle.std.specs.Prelude.{◌≡◌, ◌≤◌, ◌+◌, ◌∷◌, [], ℕ, List, length, Err, IfOk, OnOk, OnErr};
 ghost use Rattle.std.specs.Io.KnownBytes.{Consumes, IsAtEnd};
@@ -8,10 +8,11 @@ ghost use Rattle.eos_kept.specs.Kept.{IsKept};
 
 use crate::fold::{Asked, SegmentFold};
 use crate::summary::Kept;
+use bytes::Bytes;
 use eos_evidence::{MAX_SEGMENT_BYTES, ReadFault};
-use eos_fold::{is_checked, read_folded};
+use eos_fold::{ByteFold, is_checked, read_folded};
 use eos_reading::Reading;
-use std::alloc::Global;
+use std::alloc::{AllocError, Global};
 use std::io::Read;
 
 /// Reads a segment of this topic, whose name is `base`, to its end: what is kept of the bytes that the reader has left. No more
@@ -41,4 +42,30 @@ pub fn keep_segment<K: Reading + Drop, R: Read>(
     };
     let (fold, waiting) = read_folded(alloc, &asked, fold, reader)?;
     Ok(fold.finish(waiting))
+}
+
+/// What is kept of a segment of this topic, whose name is `base` and whose bytes are held: they are read where they stand.
+///
+/// # Errors
+/// Only want of memory.
+pub(crate) fn keep_bytes<K: Reading + Drop>(
+    alloc: Global,
+    reading: K,
+    topic: &[u8],
+    base: i64,
+    bytes: &Bytes,
+) -> Result<Kept<K::Kept>, AllocError>
+    requires { length bytes.now ≤ MAX_SEGMENT_BYTES }
+    ensures { IfOk result (λ kept. (segment : Segment) → segment.topic ≡ topic.now → segment.base ≡ base → segment.bytes ≡ bytes.now → IsKept (K.kept reading) (segment ∷ []) kept) }
+{
+    let begin = base.unsigned_abs();
+    let sequenced = is_checked(topic);
+    let mut fold: SegmentFold<K> = SegmentFold::new(alloc, begin, sequenced);
+    let asked = Asked {
+        reading,
+        begin,
+        sequenced,
+    };
+    let taken = fold.take(alloc, &asked, bytes)?;
+    Ok(fold.finish(bytes.len() - taken))
 }

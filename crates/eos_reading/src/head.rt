@@ -1,59 +1,21 @@
 //! The head of a batch that was opened. An end marker is read where it stands, without memory.
 
 ghost use Rattle.std.specs.Prelude.{◌≡◌, ◌≤◌, ◌∷◌, [], ℕ, pos, int_lt, int_le, length, drop, true, false, if◌then◌else◌, Ok, Some, IfOk, IfErr, IfSome, OnSome};
-ghost use Rattle.std.specs.Option.{option_map};
 ghost use Rattle.eos_batch.specs.declared.batch.Batch.{Batch};
 ghost use Rattle.eos_batch.specs.Answers.{Fails};
 ghost use Rattle.eos_batch.specs.Attributes.{is_control};
 ghost use Rattle.eos_batch.specs.Heads.{head_of};
-ghost use Rattle.eos_batch.specs.Marker.{control_type, coordinator_epoch_of, end_kind, marker_of};
+ghost use Rattle.eos_batch.specs.Marker.{marker_of};
 ghost use Rattle.eos_batch.specs.Places.{IsOpened, finished, records_in};
 ghost use Rattle.eos_batch.specs.Reading.{batch_at, with_records};
 
 use bytes::Bytes;
-use eos_batch::{Batch, BatchFault, BatchHead, Kind, Marker, Opened, RecordRef, lend_record};
+use eos_batch::{
+    Batch, BatchFault, BatchHead, Marker, Opened, RecordRef, coordinator_epoch, end_kind,
+    lend_record,
+};
 use eos_fold::{head_with, read_head};
-use eos_wire::Fields;
 use std::alloc::Global;
-
-/// The type of a control record, by its key.
-fn control_type(key: Option<&[u8]>) -> Option<i16>
-    ensures { result ≡ control_type (option_map (λ s. s.now) key.entry) }
-{
-    let Some(bytes) = key else {
-        return None;
-    };
-    let mut fields = Fields::new(bytes);
-    match fields.i16() {
-        Some(version) if version >= 0 => fields.i16(),
-        _ => None,
-    }
-}
-
-/// The kind of an end marker, by its key.
-fn end_kind(key: Option<&[u8]>) -> Option<Kind>
-    ensures { result ≡ end_kind (option_map (λ s. s.now) key.entry) }
-{
-    match control_type(key) {
-        Some(0) => Some(Kind::Abort),
-        Some(1) => Some(Kind::Commit),
-        _ => None,
-    }
-}
-
-/// The coordinator's epoch, by the value of an end marker.
-fn coordinator_epoch(value: Option<&[u8]>) -> Option<i32>
-    ensures { result ≡ coordinator_epoch_of (option_map (λ s. s.now) value.entry) }
-{
-    let Some(bytes) = value else {
-        return None;
-    };
-    let mut fields = Fields::new(bytes);
-    match fields.i16() {
-        Some(version) if version >= 0 => fields.i32(),
-        _ => None,
-    }
-}
 
 /// Whether a batch names a producer and its epoch.
 fn is_named(batch: &Batch) -> bool

@@ -2,19 +2,11 @@
 use Rattle.std.proofs.Common.{◌≡◌, ◌≢◌, ℕ, ℤ, ◌+◌, ◌<◌, ◌≤◌, pos, List, [], ◌∷◌, ◌++◌, length, drop, Ok, Err, Result, refl, sym, ap, subst, ◌∙◌, arith, inl, inr, Option, Some, None, MatchOption}
 use Rattle.std.specs.List.{filter}
 use Rattle.std.proofs.lemmas.List.Elements.{filter-append}
-use Rattle.eos_wire.specs.Numbers.{IsBytes}
-use Rattle.eos_batch.specs.declared.batch.Batch.{Batch}
-use Rattle.eos_batch.specs.declared.fault.BatchFault.{BatchFault}
-use Rattle.eos_batch.specs.declared.fault.BatchFault.TheVariants.{OutOfMemory}
 use Rattle.eos_batch.specs.declared.head.BatchHead.{BatchHead}
-use Rattle.eos_batch.specs.Answers.{Fails}
-use Rattle.eos_batch.specs.Heads.{head_of}
-use Rattle.eos_batch.specs.Offsets.{offset_of}
 use Rattle.eos_batch.specs.Reading.{batch_at}
-use Rattle.eos_batch.specs.Text.{HasTextAt}
-use Rattle.eos_batch.proofs.BatchTexts.{IsBytes-drop, text_at}
-use Rattle.eos_touch.proofs.BatchReading.{sized, fails_is}
-use Rattle.eos_touch.proofs.Continuity.{abs_pos, fits_on}
+use Rattle.eos_fold.specs.declared.stop.Stop.{Stop}
+use Rattle.eos_fold.specs.FrontHeads.{IsNextHead, EndsThere}
+use Rattle.eos_fold.proofs.FrontHeads.{offset_is}
 use Rattle.eos_evidence.specs.declared.segment.Segment.{Segment}
 use Rattle.eos_fold.specs.Fronts.{base_of}
 use Rattle.eos_sought.specs.declared.wanted.Standing.{Standing}
@@ -25,44 +17,21 @@ use Rattle.eos_sought.specs.steps.Walks.{HasWalked}
 
 -- ---- a batch
 
-same_value : (x y : Batch × ℕ) → Path (Result (Batch × ℕ) BatchFault) (Ok x) (Ok y) → x ≡ y
-same_value x y e = cc
+-- no batch that begins at this offset reads here
+pub ends : (begin : ℕ) (bytes : List ℕ) (at next : ℕ) (stop : Stop) → EndsThere begin bytes at next stop → IsEnd bytes at next
+ends begin bytes at next stop e = λ s here h same.
+    let read : batch_at (drop at bytes) ≡ Ok (h.batch, s.head.size) = subst (λ (n : ℕ). batch_at (drop n bytes) ≡ Ok (h.batch, s.head.size)) here h.reads in
+    e.none h.batch s.head.size read (sym (ap (λ (x : BatchHead). x.offset) h.head) ∙ same)
 
-no_value : (x : Batch × ℕ) (fault : BatchFault) → Path (Result (Batch × ℕ) BatchFault) (Ok x) (Err fault) → ⊥
-no_value x fault e = cc
-
--- the batch that reads here begins elsewhere
-pub ends_elsewhere : (bytes : List ℕ) (at next : ℕ) (head : BatchHead) (b : Batch) → batch_at (drop at bytes) ≡ Ok (b, head.size) → head ≡ head_of b head.size → head.offset ≢ next → IsEnd bytes at next
-ends_elsewhere bytes at next head b read is ne = λ s here h same.
-    let e : batch_at (drop at bytes) ≡ Ok (h.batch, s.head.size) = subst (λ (n : ℕ). batch_at (drop n bytes) ≡ Ok (h.batch, s.head.size)) here h.reads in
-    let p : (h.batch, s.head.size) ≡ (b, head.size) = same_value (h.batch, s.head.size) (b, head.size) (sym e ∙ read) in
-    let o : s.head.offset ≡ offset_of h.batch = ap (λ (x : BatchHead). x.offset) h.head in
-    let q : offset_of h.batch ≡ offset_of b = ap (λ (x : Batch × ℕ). offset_of x.0) p in
-    let r : head.offset ≡ offset_of b = ap (λ (x : BatchHead). x.offset) is in
-    ne (r ∙ (sym q ∙ (sym o ∙ same)))
-
--- the bytes here are no batch
-pub ends_at_bytes : (bytes : List ℕ) (at next : ℕ) (fault : BatchFault) → Fails fault (batch_at (drop at bytes)) → fault ≢ OutOfMemory → IsEnd bytes at next
-ends_at_bytes bytes at next fault fails real = λ s here h same.
-    let e : batch_at (drop at bytes) ≡ Ok (h.batch, s.head.size) = subst (λ (n : ℕ). batch_at (drop n bytes) ≡ Ok (h.batch, s.head.size)) here h.reads in
-    no_value (h.batch, s.head.size) fault (sym e ∙ fails_is fault (batch_at (drop at bytes)) real fails)
-
-pub goes : (bytes : List ℕ) (at next : ℕ) (s : Standing) (b : Batch) → IsBytes bytes → at < length bytes → batch_at (drop at bytes) ≡ Ok (b, s.head.size) → s.head ≡ head_of b s.head.size → s.head.offset ≡ next → s.byte ≡ at
-    → GoesOn bytes at next s
-goes bytes at next s b fits lt read is eq here =
-    let text : HasTextAt bytes at b s.head.size = text_at bytes at (b, s.head.size) (IsBytes-drop at bytes fits) (omega (arith, lt)) read in
-    let o : offset_of b ≡ next = sym (ap (λ (x : BatchHead). x.offset) is) ∙ eq in
-    let base : b.base_offset ≡ pos next = abs_pos b.base_offset text.1.counted.first ∙ ap pos o in
-    let n : s.head.count ≡ length b.records = ap (λ (x : BatchHead). x.count) is in
-    let last = fits_on b.base_offset next (length b.records) base text.1.counted.last in
-    record {
-      byte = here;
-      offset = eq;
-      read = record { batch = b; reads = subst (λ (m : ℕ). batch_at (drop m bytes) ≡ Ok (b, s.head.size)) (sym here) read; head = is };
-      some = sized at s.head.size bytes b text.0 text.1;
-      within = text.0;
-      fits = omega (arith, n, last);
-    }
+pub goes : (bytes : List ℕ) (at next : ℕ) (s : Standing) → IsNextHead bytes at next s.head → s.byte ≡ at → GoesOn bytes at next s
+goes bytes at next s h here = record {
+  byte = here;
+  offset = offset_is bytes at next s.head h;
+  read = record { batch = h.batch; reads = subst (λ (m : ℕ). batch_at (drop m bytes) ≡ Ok (h.batch, s.head.size)) (sym here) h.reads; head = h.is };
+  some = h.some;
+  within = h.within;
+  fits = h.fits;
+}
 
 -- what a step answers
 abbrev pub Answer : List ℕ → ℕ → ℕ → Option Standing → Type 0

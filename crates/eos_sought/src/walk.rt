@@ -7,8 +7,7 @@ ghost use Rattle.eos_sought.specs.Places.{GoesOn, IsEnd, AreWantedIn};
 use crate::wanted::{Standing, Wanted};
 use bytes::Bytes;
 use eos_evidence::Segment;
-use eos_fold::{begin_of, read_head, refusal};
-use eos_wire::are_bytes;
+use eos_fold::{begin_of, front_head};
 use std::alloc::{AllocError, Global};
 
 /// The batch at this byte of a segment, where it begins at this offset; None where the segment's batches end there. The batch is
@@ -25,18 +24,9 @@ pub fn next_standing(
     requires { at < length bytes.now }
     ensures { IfOk result (λ found. MatchOption found (IsEnd bytes.now at next) (GoesOn bytes.now at next)) }
 {
-    are_bytes(bytes.as_slice());
-    match read_head(alloc, bytes, at) {
-        Ok(head) => {
-            if head.offset != next {
-                return Ok(None);
-            }
-            Ok(Some(Standing { byte: at, head }))
-        }
-        Err(fault) => {
-            refusal(fault)?;
-            Ok(None)
-        }
+    match front_head(alloc, bytes, at, next, next)? {
+        Ok(head) => Ok(Some(Standing { byte: at, head })),
+        Err(_) => Ok(None),
     }
 }
 

@@ -25,12 +25,12 @@ source_of c = c.source
 abbrev pub itself : LentPlace → LentPlace
 itself i = i
 
--- the next claim or input names this source
+-- this is the lesser source of the next claim and the next input
 abbrev pub IsNext : Option VisibleClaim → Option LentPlace → Option LentPlace → Type 0
 IsNext None None next = next ≡ None
 IsNext (Some c) None next = next ≡ Some c.source
 IsNext None (Some i) next = next ≡ Some i
-IsNext (Some c) (Some i) next = (next ≡ Some c.source) ⊎ (next ≡ Some i)
+IsNext (Some c) (Some i) next = ((next ≡ Some c.source) × UpTo place_cmp (place_at c.source) (place_at i)) ⊎ ((next ≡ Some i) × UpTo place_cmp (place_at i) (place_at c.source))
 
 -- what holds of the items from one place up to another
 abbrev pub AllFrom : {X : Type 0} → (X → Type 0) → List X → ℕ → ℕ → Type 0
@@ -54,3 +54,11 @@ pub record AreTold (a : Application) (cs : List VisibleClaim) (is : List LentPla
   pub all : (f : OutputFault) → Has (gathered_by a (map claim_at (take j cs)) (map place_at (take k is))) f → Has list f
   pub before_claims : (f : OutputFault) → Has list f → IsBefore source_of cs j f.source
   pub before_inputs : (f : OutputFault) → Has list f → IsBefore itself is k f.source
+
+abbrev pub IsBeforeBoth : List VisibleClaim → List LentPlace → ℕ → ℕ → Place → Type 0
+IsBeforeBoth cs is j k p = IsBefore source_of cs j p × IsBefore itself is k p
+
+-- the claims and inputs in front of these indexes are of sources before all that is left
+pub record ArePassed (cs : List VisibleClaim) (is : List LentPlace) (j k : ℕ) : Type 0 where
+  pub claims : AllFrom (λ c. IsBeforeBoth cs is j k (place_at c.source)) cs 0 j
+  pub inputs : AllFrom (λ i. IsBeforeBoth cs is j k (place_at i)) is 0 k

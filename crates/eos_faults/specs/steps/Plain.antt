@@ -6,7 +6,6 @@ use Rattle.eos_base.specs.PartitionNames.{name_cmp}
 use Rattle.eos_claims.specs.declared.place.Place.{Place}
 use Rattle.eos_claims.specs.declared.fault.OutputFault.{OutputFault}
 use Rattle.eos_claims.specs.Outputs.{PlacedClaim}
-use Rattle.eos_claims.specs.Faults.{place_cmp}
 use Rattle.eos_faults.specs.declared.lent.LentName.{LentName}
 use Rattle.eos_faults.specs.declared.lent.LentPlace.{LentPlace}
 use Rattle.eos_faults.specs.declared.lent.VisibleClaim.{VisibleClaim}
@@ -26,6 +25,3 @@ fault_of f = record { source = place_at f.source; output = f.output; kind = f.ki
 
 abbrev pub by_name : LentName → LentName → Ordering
 by_name n m = name_cmp (name_at n) (name_at m)
-
-abbrev pub by_place : LentPlace → LentPlace → Ordering
-by_place p q = place_cmp (place_at p) (place_at q)

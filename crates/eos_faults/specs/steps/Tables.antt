@@ -1,44 +1,29 @@
 -- The tables in which the claims of one application are looked up, and those that their sources and commits give.
-use Rattle.std.specs.Prelude.{◌≡◌, ℕ, ℤ, pos, Bool, true, false, ◌&&◌, Option, Some, None, option_map, List, length, map, fold, if◌then◌else◌, int_lt, IsPermutation}
-use Rattle.std.specs.List.{AllWithin}
+use Rattle.std.specs.Prelude.{◌≡◌, ℕ, ℤ, pos, Bool, false, ◌&&◌, Option, Some, None, option_map, List, map, fold, if◌then◌else◌, int_lt, IsPermutation}
 use Rattle.std.specs.BTreeMap.{BTreeMap, get}
-use Rattle.std.specs.Ordering.{nat_cmp, int_cmp, ordering_then, is_eq, is_lt}
+use Rattle.std.specs.Ordering.{int_cmp, ordering_then, is_eq}
 use Rattle.std.specs.declared.cmp.Ordering.{Ordering}
 use Rattle.eos_base.specs.declared.partition_name.PartitionName.{PartitionName}
 use Rattle.eos_base.specs.PartitionNames.{name_cmp}
-use Rattle.eos_base.specs.Members.{Has, is_found}
+use Rattle.eos_base.specs.Members.{Has}
 use Rattle.eos_claims.specs.declared.place.Place.{Place}
 use Rattle.eos_claims.specs.Outputs.{Writer, PlacedClaim, Commit, Application}
-use Rattle.eos_claims.specs.Faults.{place_cmp}
-use Rattle.eos_claims.specs.Candidates.{AreApart, is_by, is_input}
+use Rattle.eos_claims.specs.Candidates.{AreApart, is_by, is_source, is_input, is_committed}
 use Rattle.eos_faults.specs.declared.lent.LentName.{LentName}
 use Rattle.eos_faults.specs.declared.lent.LentPlace.{LentPlace}
 use Rattle.eos_faults.specs.declared.lent.VisibleClaim.{VisibleClaim}
 use Rattle.eos_faults.specs.contracts.lent.VisibleClaimOrd.TheImpl.{ghosts as claim_ghosts}
 use Rattle.eos_faults.specs.declared.commits.Offset.{Offset}
 use Rattle.eos_faults.specs.declared.commits.PassKey.{PassKey}
+use Rattle.eos_faults.specs.declared.tables.Known.{Known}
 use Rattle.eos_faults.specs.declared.tables.Tables.{Tables}
-use Rattle.eos_faults.specs.steps.Plain.{name_at, place_at, claim_at, by_name, by_place}
+use Rattle.eos_faults.specs.steps.Plain.{name_at, place_at, claim_at, by_name}
 
 -- ---- claims in their order
 
 -- by source, number and place, and then by what else they say
 abbrev pub by_claim : VisibleClaim → VisibleClaim → Ordering
 by_claim = claim_ghosts.cmp
-
--- the claim is of a source before this one, or of this one and of a lesser number
-abbrev pub before : Place → ℕ → VisibleClaim → Bool
-before i n c = is_lt (ordering_then (place_cmp (place_at c.source) i) (nat_cmp c.output n))
-
-abbrev pub AreBefore : Place → ℕ → List VisibleClaim → ℕ → Type 0
-AreBefore i n cs k = AllWithin (λ c. before i n c ≡ true) cs 0 k
-
-abbrev pub AreBehind : Place → ℕ → List VisibleClaim → ℕ → Type 0
-AreBehind i n cs k = AllWithin (λ c. before i n c ≡ false) cs k (length cs)
-
--- those before it stand in front of this index, and the others behind
-abbrev pub IsBound : Place → ℕ → List VisibleClaim → ℕ → Type 0
-IsBound i n cs k = AreBefore i n cs k × AreBehind i n cs k
 
 -- these are the application's claims, in whatever order
 pub record AreClaims (a : Application) (cs : List VisibleClaim) : Type 0 where
@@ -109,8 +94,15 @@ is_reached (Some k) o ms = goes_past o (reach_of ms k.0 k.1)
 
 pub record AreTables (a : Application) (t : Tables) : Type 0 where
   pub sources : IsPermutation a.sources t.sources
-  pub inputs : (k : LentPlace) → is_found by_place t.inputs k ≡ is_input a (place_at k)
+  pub inputs : AreInputs a t.inputs
   pub offsets : AreOffsets t.offsets a.commits
   pub reached : AreReached t.reached a.commits
   pub apart : AreApart a
   pub claims : AreClaims a t.claims
+
+-- ---- of a source
+
+pub record IsKnown (a : Application) (i : Place) (known : Known) : Type 0 where
+  pub source : known.is_source ≡ is_source a i
+  pub input : known.is_input ≡ is_input a i
+  pub committed : known.is_committed ≡ is_committed a i

@@ -11,9 +11,11 @@ use Rattle.eos_verdict.specs.declared.verdict.Fault.TheVariants.{Lineage}
 use Rattle.eos_faults.specs.Sinks.{TakesAll}
 use Rattle.eos_faults.specs.steps.BySource.{AreTold, IsNext}
 use Rattle.eos_faults.specs.steps.Plain.{fault_of}
+use Rattle.eos_faults.specs.steps.Tables.{AreClaims, AreInputs}
 use Rattle.eos_faults.specs.steps.Taken.{in_group}
 use Rattle.eos_faults.proofs.BySource.{none_told, told_more}
 use Rattle.eos_faults.proofs.LentOutputs.{lent_rises, lent_each, lent_all, map_twice}
+use Rattle.eos_faults.proofs.NextSource.{claims_of_next, inputs_of_next, none_passed, passed_more}
 use Rattle.eos_faults.proofs.SinksTaken.{nothing_taken, takes_joined}
 use Rattle.eos_faults.proofs.SourceEnds.{progress, all_passed}
 use Rattle.eos_faults.proofs.WholeOutputs.{whole_outputs}
@@ -23,6 +25,7 @@ pub loop-source-init : goal.loop-source-init
 loop-source-init g c = (
   omega arith,
   omega arith,
+  none_passed c.as_slice-claims.result.now c.as_slice-inputs.result.now,
   [],
   nothing_taken g.S.FaultSink.takes c.args.sink.now,
   λ a are. none_told a c.as_slice-claims.result.now c.as_slice-inputs.result.now,
@@ -57,17 +60,22 @@ loop-source-preserved g c =
     let kept = c.distinct_in_order.result.items in
     let fs = map fault_of kept in
     let named = ap (map Lineage) (map_twice (in_group group) fault_of kept) in
-    let joined = ap (map Lineage) (map-append (in_group group) so_far.2 fs) ∙ map-append Lineage (map (in_group group) so_far.2) (map (in_group group) fs) in
+    let next = subst (IsNext (slice_get cs c.loop-source.claim) (slice_get is c.loop-source.input)) c.in-Some.is c.next_source.ensures in
+    let joined = ap (map Lineage) (map-append (in_group group) so_far.3 fs) ∙ map-append Lineage (map (in_group group) so_far.3) (map (in_group group) fs) in
     let step = subst (λ (xs : List Fault). TakesAll takes c.loop-source.sink xs c.hand_on.new.sink) named c.in_ok-hand_on.ensures in (
       claims.within,
       inputs.within,
-      so_far.2 ++ fs,
+      passed_more c.in-Some.source cs is c.loop-source.claim c.loop-source.input next c.end_of_claims-last_claim.result c.end_of_inputs-last_input.result so_far.2 claims inputs,
+      so_far.3 ++ fs,
       subst (λ (xs : List Fault). TakesAll takes c.args.sink.now xs c.hand_on.new.sink) (sym joined)
-          (takes_joined takes (map Lineage (map (in_group group) so_far.2)) (map Lineage (map (in_group group) fs)) c.args.sink.now c.loop-source.sink c.hand_on.new.sink so_far.3 step),
+          (takes_joined takes (map Lineage (map (in_group group) so_far.3)) (map Lineage (map (in_group group) fs)) c.args.sink.now c.loop-source.sink c.hand_on.new.sink so_far.4 step),
       λ a are.
-          let shown = c.in_ok-faults.ensures a are in
+          let all = subst (AreClaims a) (sym c.as_slice-claims.ensures.items) are.claims in
+          let mine = claims_of_next c.in-Some.source cs is c.loop-source.claim c.loop-source.input next a c.end_of_claims-last_claim.result all c.as_slice-claims.ensures.sorted so_far.2 claims in
+          let read = inputs_of_next c.in-Some.source cs is c.loop-source.claim c.loop-source.input next a c.end_of_inputs-last_input.result (subst (AreInputs a) (sym c.as_slice-inputs.ensures.items) are.inputs) c.as_slice-inputs.ensures.sorted so_far.2 inputs in
+          let shown = c.in_ok-faults.ensures a are mine read in
           let tied = lent_all found kept c.distinct_in_order.ensures.all in
-          told_more a cs is c.loop-source.claim c.end_of_claims-last_claim.result c.loop-source.input c.end_of_inputs-last_input.result c.in-Some.source so_far.2 fs (so_far.4 a are) claims inputs
+          told_more a cs is c.loop-source.claim c.end_of_claims-last_claim.result c.loop-source.input c.end_of_inputs-last_input.result c.in-Some.source so_far.3 fs (so_far.5 a are) claims inputs
           (lent_rises kept c.distinct_in_order.ensures.rises)
           (λ f h. subst (λ (xs : List OutputFault). Has xs f) shown (lent_each found kept c.distinct_in_order.ensures.each f h))
           (λ f h. let k = tied f (subst (λ (xs : List OutputFault). Has xs f) (sym shown) h) in subst (Has fs) (sym (fault_exact f k.0 (is_tied (fault_cmp f k.0) k.2))) k.1),
@@ -80,12 +88,12 @@ returns g c =
     let told = c.loop-source.invariant in
     let next = subst (IsNext (slice_get cs c.loop-source.claim) (slice_get is c.loop-source.input)) c.in_default.is c.next_source.ensures in
     let passed = all_passed cs is c.loop-source.claim c.loop-source.input c.loop-source.invariant.0 c.loop-source.invariant.1 next in (
-      told.2,
       told.3,
-      λ a reads are read.
-          let all = subst (λ n. AreTold a cs is n c.loop-source.input told.2) passed.0 (told.4 a are) in
-          let whole = subst (λ n. AreTold a cs is (length cs) n told.2) passed.1 all in
-          let of_claims = subst (λ ds. AreTold a ds is (length ds) (length is) told.2) c.as_slice-claims.ensures.items whole in
-          let of_inputs = subst (λ js. AreTold a c.args.tables.now.claims js (length c.args.tables.now.claims) (length js) told.2) c.as_slice-inputs.ensures.items of_claims in
-          whole_outputs a reads are.apart c.args.tables.now.claims are.claims c.args.tables.now.inputs read told.2 of_inputs,
+      told.4,
+      λ a reads are.
+          let all = subst (λ n. AreTold a cs is n c.loop-source.input told.3) passed.0 (told.5 a are) in
+          let whole = subst (λ n. AreTold a cs is (length cs) n told.3) passed.1 all in
+          let of_claims = subst (λ ds. AreTold a ds is (length ds) (length is) told.3) c.as_slice-claims.ensures.items whole in
+          let of_inputs = subst (λ js. AreTold a c.args.tables.now.claims js (length c.args.tables.now.claims) (length js) told.3) c.as_slice-inputs.ensures.items of_claims in
+          whole_outputs a reads are.apart c.args.tables.now.claims are.claims c.args.tables.now.inputs are.inputs told.3 of_inputs,
     )

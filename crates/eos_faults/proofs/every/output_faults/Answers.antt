@@ -34,7 +34,7 @@ loop-app-preserved g c =
       subst (λ (fs : List Fault). TakesAll takes c.args.sink.now fs c.faults_by_source.new.sink) (sym (map-append Lineage so_far.0 named))
           (takes_joined takes (map Lineage so_far.0) (map Lineage named) c.args.sink.now c.loop-app.sink c.faults_by_source.new.sink so_far.1 step),
       λ order.
-          let each = told.2 (application_of app parts) (reads app parts) (c.in_ok-tables.ensures.tables order) c.in_ok-tables.ensures.inputs in
+          let each = told.2 (application_of app parts) (reads app parts) (c.in_ok-tables.ensures order) in
           subst (λ (done : List App). AreTaken apps parts done (so_far.0 ++ named)) further (taken_more apps parts (take i apps) app told.0 so_far.0 (so_far.0 ++ named) (so_far.2 order) each refl),
     )
 

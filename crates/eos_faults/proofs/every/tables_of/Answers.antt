@@ -1,20 +1,16 @@
-use Rattle.std.proofs.Common.{ap, refl, subst, sym, ◌∙◌, map, List, IsPermutation}
+use Rattle.std.proofs.Common.{ap, subst, sym, ◌∙◌, map, List, IsPermutation}
 use Rattle.std.proofs.lemmas.List.Sorted.{IsPermutation-sym}
-use Rattle.eos_base.specs.Members.{Has, is_found}
-use Rattle.eos_base.proofs.Membership.{found_by}
-use Rattle.eos_claims.specs.declared.place.Place.{Place}
-use Rattle.eos_claims.specs.Faults.{place_cmp}
+use Rattle.eos_base.specs.Members.{Has}
 use Rattle.eos_commits.specs.declared.commits.CommitRef.{CommitRef}
 use Rattle.eos_commits.specs.Plain.{plain_commit}
 use Rattle.eos_lineage.proofs.PartsLineage.{claims_same, inputs_same, apart}
-use Rattle.eos_faults.specs.steps.Plain.{claim_at, place_at, by_place}
+use Rattle.eos_faults.specs.steps.Plain.{claim_at, place_at}
 use Rattle.eos_faults.specs.steps.Tables.{AreOffsets, AreReached}
-use Rattle.eos_faults.proofs.LookedUp.{found_among}
 use Rattle.eos_faults.proofs.WholeOutputs.{mapped_order}
 use Rattle.eos_faults.proofs.every.tables_of.Goals as goal
 
-pub returns-clause-tables : goal.returns-clause-tables
-returns-clause-tables c = λ order.
+pub returns : goal.returns
+returns c = λ order.
     let app = c.args.app.now in
     let parts = c.args.parts.now in
     let table = c.requires in
@@ -25,9 +21,10 @@ returns-clause-tables c = λ order.
     let claims = c.in_ok-claims.ensures ∙ claims_same app.outputs c.in_ok-outputs.outputs parts outputs in
     record {
       sources = sources;
-      inputs = λ k.
-          found_among by_place c.in_ok-inputs.inputs.items c.of-3.result k c.of-3.ensures
-          ∙ (found_by place_at place_cmp by_place (λ x y. refl) c.in_ok-inputs.inputs.items k ∙ ap (λ (is : List Place). is_found place_cmp is (place_at k)) inputs);
+      inputs = record {
+        sound = λ i h. subst (λ is. Has is i) inputs (mapped_order place_at c.of-3.result c.in_ok-inputs.inputs.items (IsPermutation-sym c.in_ok-inputs.inputs.items c.of-3.result c.of-3.ensures) i h);
+        whole = λ i h. mapped_order place_at c.in_ok-inputs.inputs.items c.of-3.result c.of-3.ensures i (subst (λ is. Has is i) (sym inputs) h);
+      };
       offsets = subst (AreOffsets c.in_ok-offsets.offsets) (ap (λ (cs : List CommitRef). map plain_commit cs) c.as_slice-3.ensures.value ∙ commits) c.in_ok-offsets.ensures;
       reached = subst (AreReached c.in_ok-reached.reached) (ap (λ (cs : List CommitRef). map plain_commit cs) c.as_slice-4.ensures.value ∙ commits) c.in_ok-reached.ensures;
       apart = apart app parts order;
@@ -35,16 +32,4 @@ returns-clause-tables c = λ order.
         sound = λ d h. subst (λ ds. Has ds d) claims (mapped_order claim_at c.of-4.result c.in_ok-claims.claims.items (IsPermutation-sym c.in_ok-claims.claims.items c.of-4.result c.of-4.ensures) d h);
         whole = λ d h. mapped_order claim_at c.in_ok-claims.claims.items c.of-4.result c.of-4.ensures d (subst (λ ds. Has ds d) (sym claims) h);
       };
-    }
-
-pub returns-clause-inputs : goal.returns-clause-inputs
-returns-clause-inputs c =
-    let app = c.args.app.now in
-    let parts = c.args.parts.now in
-    let sources = subst (λ ts. IsPermutation ts c.in_ok-sources.sources) c.as_slice.ensures c.in_ok-sources.ensures in
-    let inputs = c.in_ok-inputs.ensures ∙ inputs_same app.sources c.in_ok-sources.sources parts sources in
-    let places = c.in_ok-inputs.inputs.items in
-    record {
-      sound = λ i h. subst (λ is. Has is i) inputs (mapped_order place_at c.of-3.result places (IsPermutation-sym places c.of-3.result c.of-3.ensures) i h);
-      whole = λ i h. mapped_order place_at places c.of-3.result c.of-3.ensures i (subst (λ is. Has is i) (sym inputs) h);
     }

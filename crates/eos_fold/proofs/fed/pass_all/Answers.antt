@@ -1,4 +1,4 @@
-use Rattle.std.proofs.Common.{◌+◌, ◌≤◌, length, arith}
+use Rattle.std.proofs.Common.{arith}
 use Rattle.eos_fold.proofs.fed.pass_all.Goals as goal
 
 pub overflow_add-byte : goal.overflow_add-byte

@@ -1,4 +1,4 @@
-use Rattle.std.proofs.Common.{◌≡◌, ◌≢◌, ◌≤◌, ◌+◌, length, ◌∙◌, sym, ap, subst, arith, take, drop, rules}
+use Rattle.std.proofs.Common.{◌≢◌, length, ◌∙◌, sym, ap, subst, arith, take, drop, rules}
 use Rattle.std.proofs.lemmas.List.{take-append-drop, length-drop}
 use Rattle.eos_wire.specs.Numbers.{IsBytes}
 use Rattle.eos_batch.specs.Text.{HasTextAt}

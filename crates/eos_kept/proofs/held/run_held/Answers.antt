@@ -1,7 +1,10 @@
 use Rattle.std.proofs.Common.{◌∷◌, [], take}
 use Rattle.eos_kept.specs.steps.Held.{Asking}
-use Rattle.eos_kept.proofs.PartsHeld.{of_partition, more_held}
+use Rattle.eos_kept.proofs.PartsHeld.{of_partition, more_held, is_small}
 use Rattle.eos_kept.proofs.held.run_held.Goals as goal
+
+pub read_held-requires : goal.read_held-requires
+read_held-requires c = is_small c.args.partition.now c.as_slice-segments.result.now c.loop-i.i c.index-segments-i.result c.requires c.as_slice-segments.ensures c.loop-i-test.true c.index-segments-i.is
 
 pub longer-requires : goal.longer-requires
 longer-requires c =

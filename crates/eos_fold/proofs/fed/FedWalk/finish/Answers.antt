@@ -1,4 +1,4 @@
-use Rattle.std.proofs.Common.{◌≡◌, ◌∙◌, [], List, ℕ, length, refl, sym, ap, subst}
+use Rattle.std.proofs.Common.{◌∙◌, List, ℕ, length, refl, sym, ap, subst}
 use Rattle.std.proofs.lemmas.List.{nil_from_length}
 use Rattle.eos_fold.specs.Counts.{IsProducerCount}
 use Rattle.eos_fold.proofs.FedSteps.{fed_broken, fed_cut, fed_good}
