@@ -78,9 +78,6 @@ ended_exact x y e =
     ∙ (ap (λ z. ended_from y.0 y.1 z x.3) (kind_exact x.2 y.2 (nat_exact (rank_of x.2) (rank_of y.2) t.0))
     ∙ ap (λ z. ended_from y.0 y.1 y.2 z) (name_exact x.3 y.3 t.1)))
 
-pub finds_pairs : (xs keys : List (ℤ × ℤ)) → IsPermutation xs keys → Finds pair_cmp keys xs
-finds_pairs = finds pair_cmp pair_total pair_exact
-
 pub finds_closes : (xs keys : List Close) → IsPermutation xs keys → Finds close_cmp keys xs
 finds_closes = finds close_cmp close_total close_exact
 
@@ -89,6 +86,3 @@ finds_listed = finds listed_cmp listed_total listed_exact
 
 pub finds_ended : (xs keys : List (ℤ × ℤ × Kind × PartitionName)) → IsPermutation xs keys → Finds ended_cmp keys xs
 finds_ended = finds ended_cmp ended_total ended_exact
-
-pub finds_names : (xs keys : List PartitionName) → IsPermutation xs keys → Finds name_cmp keys xs
-finds_names = finds name_cmp name_total name_exact

@@ -6,16 +6,12 @@ use Rattle.eos_base.proofs.Membership.{flat_has, has_flat, map_has, has_map, if_
 use Rattle.eos_batch.specs.declared.marker.Kind.{Kind}
 use Rattle.eos_batch.specs.declared.marker.Marker.{Marker}
 use Rattle.eos_txnlog.specs.declared.decision.Decision.{Decision}
-use Rattle.eos_fold.specs.declared.close.Close.{Close}
 use Rattle.eos_fold.specs.Parts.{part_name, PartLog}
 use Rattle.eos_txnlog.specs.PartitionSets.{names_of}
-use Rattle.eos_table.specs.steps.Keys.{mine, decided, judged, listed, listed_of, ended, ended_of, marked, marked_of, names}
+use Rattle.eos_table.specs.steps.Keys.{mine, decided, listed, listed_of, ended, ended_of, marked, marked_of}
 
 abbrev pub pair_of : Decision → ℤ × ℤ
 pair_of d = (d.producer, d.epoch)
-
-abbrev pub close_of : Decision → Close
-close_of d = record { producer = d.producer; epoch = d.epoch; marker_epoch = d.marker_epoch; kind = d.kind }
 
 abbrev pub listed_key : Decision → PartitionName → ℤ × ℤ × PartitionName
 listed_key d m = (d.producer, d.epoch, m)
@@ -32,18 +28,6 @@ module _ (n s : ℕ) (ds : List Decision) where
       let r = flat_has (λ (d : Decision). if mine n s d.producer then pair_of d ∷ [] else []) ds k h in
       let i = if_has (mine n s r.0.producer) (pair_of r.0 ∷ []) k r.2 in
       (r.0, r.1, only (pair_of r.0) k i.1, i.0)
-
-  pub to_decided : (d : Decision) → Has ds d → mine n s d.producer ≡ true → Has (decided n s ds) (pair_of d)
-  to_decided d h m = has_flat (λ (d : Decision). if mine n s d.producer then pair_of d ∷ [] else []) ds d (pair_of d) h (has_if (mine n s d.producer) (pair_of d ∷ []) (pair_of d) m (inl refl))
-
-  pub in_judged : (k : Close) → Has (judged n s ds) k → (d : Decision) × Has ds d × (close_of d ≡ k)
-  in_judged k h =
-      let r = flat_has (λ (d : Decision). if mine n s d.producer then close_of d ∷ [] else []) ds k h in
-      let i = if_has (mine n s r.0.producer) (close_of r.0 ∷ []) k r.2 in
-      (r.0, r.1, only (close_of r.0) k i.1)
-
-  pub to_judged : (d : Decision) → Has ds d → mine n s d.producer ≡ true → Has (judged n s ds) (close_of d)
-  to_judged d h m = has_flat (λ (d : Decision). if mine n s d.producer then close_of d ∷ [] else []) ds d (close_of d) h (has_if (mine n s d.producer) (close_of d ∷ []) (close_of d) m (inl refl))
 
   pub in_listed : (k : ℤ × ℤ × PartitionName) → Has (listed n s ds) k → (d : Decision) × Has ds d × (m : PartitionName) × Has (names_of d.partitions) m × (listed_key d m ≡ k)
   in_listed k h =
@@ -79,9 +63,3 @@ module _ (n s : ℕ) (ps : List PartLog) where
   to_marked p hp m hm t = has_flat (λ (p : PartLog). marked_of n s (part_name p) p.markers) ps p (marked_key p m) hp
       (has_flat (λ (m : Marker). if mine n s m.producer then marked_key p m ∷ [] else []) p.markers m (marked_key p m) hm
       (has_if (mine n s m.producer) (marked_key p m ∷ []) (marked_key p m) t (inl refl)))
-
-pub in_names : (ps : List PartLog) (k : PartitionName) → Has (names ps) k → (p : PartLog) × Has ps p × ((part_name p) ≡ k)
-in_names ps k h = map_has part_name ps k h
-
-pub to_names : (ps : List PartLog) (p : PartLog) → Has ps p → Has (names ps) (part_name p)
-to_names ps p h = has_map part_name ps p h

@@ -5,12 +5,9 @@ pub mod ShardLaw
 pub mod KeyExact
 pub mod KeyOrders
 pub mod KeyMembers
-pub mod LesserKind
-pub mod MatchSound
-pub mod MatchWhole
 pub mod TwiceKeys
-pub mod ShardAnswer
 pub mod FoldMore
+pub mod KeptFaults
 pub mod LogOrder
 pub mod LogPlaces
 pub mod LogLaw
@@ -29,7 +26,8 @@ pub mod DoubledFaults
 pub mod PlaceTests
 pub mod PlacesSound
 pub mod PlacesWhole
-pub mod PushedMore
+pub mod ShardPlaces
+pub mod ShardSteps
 pub mod KeptDeciders
 pub mod TablesShown
 pub mod KnownTexts

@@ -1,11 +1,11 @@
 -- What is gathered of the transaction log is what stands there; so the least of it is the least that stands.
-use Rattle.std.proofs.Common.{◌≡◌, ℕ, ℤ, List, [], ◌∷◌, ◌++◌, map, fold, Option, Some, None, Ok, Err, refl, sym, subst, ap, ◌∙◌, inl, inr, ◌⊎◌, true, false, Bool, if◌then◌else◌, cond, unsigned_abs, append_assoc}
+use Rattle.std.proofs.Common.{◌≡◌, ℕ, ℤ, List, [], ◌∷◌, ◌++◌, map, fold, Option, Some, Ok, Err, refl, sym, subst, ap, ◌∙◌, inl, inr, ◌⊎◌, true, false, Bool, if◌then◌else◌, cond, unsigned_abs}
 use Rattle.std.specs.List.{flat_map}
 use Rattle.std.proofs.lemmas.List.{append-nil}
 use Rattle.std.proofs.lemmas.List.Sums.{fold-append}
 use Rattle.eos_base.specs.declared.record_fault.RecordFault.{RecordFault}
 use Rattle.eos_base.specs.Members.{Has}
-use Rattle.eos_base.specs.Least.{IsLeastOrNone, lesser_of}
+use Rattle.eos_base.specs.Least.{IsLeastOrNone}
 use Rattle.eos_base.proofs.Membership.{append_cases, append_left, append_right, flat_has, has_flat, has_map, only, if_has, has_if}
 use Rattle.eos_base.proofs.LeastOf.{upto_itself, least_by_candidates}
 use Rattle.eos_txnlog.specs.declared.step.TxnFault.{TxnFault}
@@ -24,6 +24,7 @@ use Rattle.eos_table.specs.steps.LogCandidates.{LogRead, after, unread, none_fou
 use Rattle.eos_table.specs.declared.held.Holding.TheVariants.{Each, Apart}
 use Rattle.eos_table.specs.steps.Doubled.{doubled_after, gathered}
 use Rattle.eos_table.specs.steps.Held.{Readout, Shows}
+use Rattle.eos_table.proofs.KeptFaults.{least_kept, all_kept}
 use Rattle.eos_table.proofs.LogOrder.{log_total, log_exact}
 use Rattle.eos_table.proofs.LogTables.{same}
 use Rattle.eos_table.proofs.DoubledFaults.{doubled_sound, split_whole, shared_whole}
@@ -219,30 +220,16 @@ module _ (log : List PartLog) (are : AreInOrder log) where
 
 -- ---- what is kept of it
 
-abbrev with_least : Option LogFault → Faults
-with_least best = record { keeps_all = false; least = best; all = [] }
-
-abbrev with_all : List LogFault → Faults
-with_all faults = record { keeps_all = true; least = None; all = faults }
-
-least_kept : (fs : List LogFault) (best : Option LogFault) → (fold taken (with_least best) fs).least ≡ fold (lesser_of log_cmp) best fs
-least_kept [] best = refl
-least_kept (f ∷ fs) best = least_kept fs (lesser_of log_cmp best f)
-
-all_kept : (fs before : List LogFault) → (fold taken (with_all before) fs).all ≡ before ++ fs
-all_kept [] before = sym (append-nil before)
-all_kept (f ∷ fs) before = all_kept fs (before ++ f ∷ []) ∙ append_assoc before (f ∷ []) fs
-
 -- where all is kept, it is what is gathered
 pub judged_all : (log : List PartLog) (last : Faults) (found : List LogFault) → last ≡ fold taken (none_found true) (gathered log) → found ≡ last.all → found ≡ gathered log
-judged_all log last found is e = e ∙ (ap (λ (z : Faults). z.all) is ∙ all_kept (gathered log) [])
+judged_all log last found is e = e ∙ (ap (λ (z : Faults). z.all) is ∙ all_kept log_cmp (gathered log))
 
 -- where only the least is kept, it is the least that stands
 pub judged_least : (log : List PartLog) → AreInOrder log → (last : Faults) (best : Option LogFault) → last ≡ fold taken (none_found false) (gathered log) → best ≡ last.least
     → IsLeastOrNone log_cmp (Stands log) best
 judged_least log are last best is e = least_by_candidates log_total log_exact (Stands log) (gathered log)
     (λ f h. (f, sound log are f h, upto_itself log_total f)) (λ g st. (g, all_whole log are g st, upto_itself log_total g)) best
-    (e ∙ (ap (λ (z : Faults). z.least) is ∙ least_kept (gathered log) None))
+    (e ∙ (ap (λ (z : Faults). z.least) is ∙ least_kept log_cmp (gathered log)))
 
 -- ---- the one pass after the other
 

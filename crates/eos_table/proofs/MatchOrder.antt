@@ -1,24 +1,18 @@
 -- The order of the faults is total, and only equal faults are tied in it.
-use Rattle.std.proofs.Common.{◌≡◌, Option, Some, None, option_map, refl, ap}
+use Rattle.std.proofs.Common.{refl}
 use Rattle.std.specs.Option.{option_cmp}
-use Rattle.std.specs.Ordering.{int_cmp, ordering_then}
+use Rattle.std.specs.Ordering.{int_cmp}
 use Rattle.std.specs.Cmp.{IsTotalOrder}
 use Rattle.std.specs.declared.cmp.Ordering.{Ordering}
 use Rattle.eos_base.specs.steps.Least.{IsExact}
 use Rattle.eos_base.specs.PartitionNames.{name_cmp}
 use Rattle.eos_base.proofs.Exact.{then_parts, int_exact, option_exact}
 use Rattle.eos_base.proofs.NamesInOrder.{name_exact}
-use Rattle.eos_table.specs.declared.best.Found.{Found}
-use Rattle.eos_table.specs.declared.key.NameRef.{NameRef}
 use Rattle.eos_verdict.specs.declared.match_fault.MatchFaultKind.{MatchFaultKind}
 use Rattle.eos_verdict.specs.declared.match_fault.MatchFaultKind.TheVariants.{TwiceDecided, Undecided, WrongKind, NotListed, StrayMarker, AbsentPartition, MissingMarker}
-use Rattle.eos_table.specs.contracts.best.FoundOrd.TheImpl.{ghosts as found_ghosts}
-use Rattle.eos_table.specs.contracts.key.NameRefOrd.TheImpl.{ghosts as name_ghosts}
 use Rattle.eos_verdict.specs.contracts.match_fault.MatchFaultKindOrd.TheImpl.{ghosts as kind_ghosts}
 use Rattle.eos_verdict.specs.contracts.match_fault.MatchFaultOrd.TheImpl.Laws.{total-law}
 use Rattle.eos_table.specs.MatchFaults.{fault_cmp}
-use Rattle.eos_table.specs.steps.Keys.{plain_name}
-use Rattle.eos_table.specs.steps.Candidates.{plain}
 
 abbrev pub kind_cmp : MatchFaultKind → MatchFaultKind → Ordering
 kind_cmp = kind_ghosts.cmp
@@ -46,15 +40,3 @@ fault_exact f g e =
 
 pub fault_total : IsTotalOrder fault_cmp
 fault_total = total-law
-
--- what is found with a lent name is ordered as the fault that it stands for
-
-names_alike : (x y : Option NameRef) → option_cmp name_ghosts.cmp x y ≡ option_cmp name_cmp (option_map plain_name x) (option_map plain_name y)
-names_alike None None = refl
-names_alike None (Some y) = refl
-names_alike (Some x) None = refl
-names_alike (Some x) (Some y) = refl
-
-pub found_alike : (f g : Found) → found_ghosts.cmp f g ≡ fault_cmp (plain f) (plain g)
-found_alike f g = ap (λ (o : Ordering). ordering_then (int_cmp f.producer g.producer) (ordering_then (int_cmp f.epoch g.epoch) (ordering_then (kind_cmp f.kind g.kind) o)))
-    (names_alike f.partition g.partition)

@@ -1,5 +1,5 @@
 -- Where the quick walk says yes, no fault stands.
-use Rattle.std.proofs.Common.{◌≡◌, ◌<◌, ◌%◌, ℕ, zero, suc, ℤ, List, [], ◌∷◌, length, Some, None, Vec, Global, IsPermutation, IsSorted, refl, sym, subst, ap, ◌∙◌, inl, inr, arith}
+use Rattle.std.proofs.Common.{◌≡◌, ◌<◌, ◌%◌, ℕ, zero, suc, ℤ, List, [], ◌∷◌, length, Some, Vec, Global, IsPermutation, IsSorted, refl, sym, subst, ap, ◌∙◌, inl, inr, arith}
 use Rattle.std.specs.Prelude.{slice_get, slice_index_or}
 use Rattle.std.proofs.Math.Nat.{mod-lt}
 use Rattle.std.proofs.lemmas.Bool.{cases_lt}
@@ -14,17 +14,13 @@ use Rattle.eos_txnlog.specs.PartitionSets.{names_of}
 use Rattle.eos_fold.specs.declared.close.Close.{Close}
 use Rattle.eos_fold.specs.Parts.{part_name, PartLog}
 use Rattle.eos_table.specs.Atomic.{IsOf, EndsAs, Ends, AreOfOne, NoTwo}
-use Rattle.eos_verdict.specs.declared.match_fault.MatchFault.{MatchFault}
-use Rattle.eos_verdict.specs.declared.match_fault.MatchFaultKind.TheVariants.{TwiceDecided}
 use Rattle.eos_table.specs.MatchFaults.{Stands}
 use Rattle.eos_table.specs.steps.Keys.{decided, pair_cmp}
-use Rattle.eos_table.specs.steps.Candidates.{fault_of, IsTwice}
+use Rattle.eos_table.specs.steps.Neighbours.{AreApart}
 use Rattle.eos_table.specs.steps.Wanted.{Lists, wanted_close, wish, wishes_of, wishes, Have, marker_end, close_end, Agrees, AgreesAt, IsOnce, IsGood}
 use Rattle.eos_table.proofs.AtomicLaw.{once_from, law}
-use Rattle.eos_table.proofs.ShardLaw.{shard_of}
-use Rattle.eos_table.proofs.MatchSound.{is_mine, mine_is}
-use Rattle.eos_table.proofs.KeyExact.{finds_pairs}
-use Rattle.eos_table.proofs.TwiceKeys.{whole_twice}
+use Rattle.eos_table.proofs.ShardLaw.{shard_of, is_mine}
+use Rattle.eos_table.proofs.TwiceKeys.{never_twice}
 
 -- ---- places
 
@@ -139,10 +135,5 @@ module _ (ds : List Decision) (ps : List PartLog) (lists : Lists) (have : Have p
 
 -- ---- no two of one producer id and epoch
 
-pub once_in : (n s : ℕ) (ds : List Decision) (D : List (ℤ × ℤ)) → IsPermutation (decided n s ds) D → IsSorted pair_cmp D → IsTwice D None → IsOnce n s ds
-once_in n s ds D same up twice = λ producer epoch m two.
-    let w = whole_twice n s ds [] D (finds_pairs (decided n s ds) D same) same up None twice (fault_of producer epoch None TwiceDecided) refl (mine_is n s producer m) (two, refl) in
-    nothing w.0 w.1
-  where
-    nothing : (f : MatchFault) → None ≡ Some f → ⊥
-    nothing f e = cc
+pub once_in : (n s : ℕ) (ds : List Decision) (D : List (ℤ × ℤ)) → IsPermutation (decided n s ds) D → IsSorted pair_cmp D → AreApart D → IsOnce n s ds
+once_in n s ds D same up apart = λ producer epoch m two. never_twice n s ds D same up apart producer epoch m two

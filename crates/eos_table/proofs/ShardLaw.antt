@@ -1,6 +1,7 @@
 -- The shards together.
-use Rattle.std.proofs.Common.{◌≡◌, ◌<◌, ◌-◌, ◌%◌, ℕ, ℤ, pos, negsuc, List, Option, Some, None, refl, subst, arith}
+use Rattle.std.proofs.Common.{◌≡◌, ◌<◌, ◌-◌, ◌%◌, ℕ, ℤ, pos, negsuc, List, Option, Some, None, refl, subst, true, arith}
 use Rattle.std.specs.Int.{int_rem_euclid}
+use Rattle.std.proofs.lemmas.Bool.Decides.{Decides-int_eq}
 use Rattle.eos_base.specs.Least.{UpTo, NoneStands, IsLeast}
 use Rattle.eos_base.proofs.LeastOf.{upto_trans}
 use Rattle.eos_txnlog.specs.declared.decision.Decision.{Decision}
@@ -8,7 +9,14 @@ use Rattle.eos_fold.specs.Parts.{PartLog}
 use Rattle.eos_verdict.specs.declared.match_fault.MatchFault.{MatchFault}
 use Rattle.eos_table.specs.MatchFaults.{fault_cmp, Stands}
 use Rattle.eos_table.specs.Shards.{InShard, StandsIn, IsAnswer, AreAnswers}
+use Rattle.eos_table.specs.steps.Keys.{mine}
 use Rattle.eos_table.proofs.MatchOrder.{fault_total}
+
+pub mine_is : (n s : ℕ) (p : ℤ) → mine n s p ≡ true → int_rem_euclid p (pos n) ≡ pos s
+mine_is n s p e = (Decides-int_eq (int_rem_euclid p (pos n)) (pos s)).0 e
+
+pub is_mine : (n s : ℕ) (p : ℤ) → int_rem_euclid p (pos n) ≡ pos s → mine n s p ≡ true
+is_mine n s p e = (Decides-int_eq (int_rem_euclid p (pos n)) (pos s)).1 e
 
 -- each number has a shard
 pub shard_of : (n : ℕ) (z : ℤ) → 0 < n → (s : ℕ) × (s < n) × (int_rem_euclid z (pos n) ≡ pos s)

@@ -1,6 +1,7 @@
 -- What only private functions promise: steps towards what the public calls say.
-pub mod Candidates
+pub mod Neighbours
 pub mod Keys
+pub mod KeptFaults
 pub mod LogCandidates
 pub mod OneShard
 pub mod Wanted

@@ -1,11 +1,12 @@
-//! The decisions of each producer id and data epoch.
+//! The decisions of each producer id and data epoch of a shard.
 
 ghost use Rattle.std.specs.Prelude.{◌≡◌, List, ◌∷◌, [], ◌++◌, IfOk, OnOk};
 ghost use Rattle.std.specs.BTreeMap.{get};
 ghost use Rattle.eos_txnlog.specs.declared.decision.Decision.{Decision as DecisionOf};
 ghost use Rattle.eos_table.specs.steps.Keys.{pair_cmp};
-ghost use Rattle.eos_table.specs.steps.Deciders.{with_decision, AreDeciders};
+ghost use Rattle.eos_table.specs.steps.Deciders.{with_decision, decided_in, AreDeciders};
 
+use crate::one_shard::Shard;
 use crate::shared::SharedDecision;
 use eos_batch::Kind;
 use std::alloc::{AllocError, Global};
@@ -58,16 +59,19 @@ fn take_decision(deciders: &mut Deciders, decision: &SharedDecision) -> Result<(
     Ok(())
 }
 
-/// The table of these decisions.
+/// The table of the decisions of a shard.
 pub(crate) fn deciders_of(
     alloc: Global,
     decisions: &[SharedDecision],
+    shard: Shard,
 ) -> Result<Deciders, AllocError>
-    ensures { IfOk result (λ deciders. AreDeciders deciders decisions.now) }
+    ensures { IfOk result (λ deciders. AreDeciders deciders (decided_in shard.of shard.number decisions.now)) }
 {
     let mut deciders = BTreeMap::new(alloc);
     for decision in decisions {
-        take_decision(&mut deciders, decision)?;
+        if shard.has(decision.producer()) {
+            take_decision(&mut deciders, decision)?;
+        }
     }
     Ok(deciders)
 }

@@ -10,7 +10,7 @@ ghost use Rattle.eos_table.specs.declared.mark.Mark.{Mark};
 ghost use Rattle.eos_table.specs.steps.LogCandidates.{taken};
 ghost use Rattle.eos_table.specs.steps.Doubled.{AreHomes, AreIds, home_in, lesser_home, with_id, split_at, shared_if, shared_at, doubled_after};
 
-use crate::log_faults::LogFaults;
+use crate::log_faults::{LogFaults, take_at};
 use crate::mark::{Mark, Place};
 use bytes::Bytes;
 use eos_verdict::LogFaultKind;
@@ -66,7 +66,7 @@ fn push_split(faults: &mut LogFaults, mark: &Mark, home: Option<i32>) -> Result<
         let kind = LogFaultKind::SplitId {
             id: mark.id.clone()?,
         };
-        return faults.take(place_of(mark), kind);
+        return take_at(faults, place_of(mark), kind);
     }
     Ok(())
 }
@@ -111,7 +111,7 @@ fn push_shared(faults: &mut LogFaults, mark: &Mark, is_shared: bool) -> Result<(
         let kind = LogFaultKind::SharedProducer {
             id: mark.id.clone()?,
         };
-        return faults.take(place_of(mark), kind);
+        return take_at(faults, place_of(mark), kind);
     }
     Ok(())
 }

@@ -3,14 +3,13 @@
 ghost use Rattle.std.specs.Prelude.{◌≡◌, ◌++◌, IfOk, OnOk, IsPermutation, map};
 ghost use Rattle.eos_txnlog.specs.PartitionSets.{name_of, names_in_topic, names_of};
 ghost use Rattle.eos_fold.specs.Parts.{part_name};
-ghost use Rattle.eos_table.specs.steps.Keys.{plain_name, decided, judged, listed, listed_of, plain_listed, ended, ended_of, plain_ended, marked, marked_of, names};
+ghost use Rattle.eos_table.specs.steps.Keys.{plain_name, decided, listed, listed_of, plain_listed, ended, ended_of, plain_ended, marked, marked_of, names};
 
 use crate::one_shard::Shard;
 use crate::shared::SharedDecision;
 use bytes::Bytes;
 use eos_base::Sorted;
 use eos_batch::Kind;
-use eos_fold::Close;
 use eos_kept::Part;
 use eos_txnlog::TopicPartitions;
 use std::alloc::{AllocError, Global};
@@ -71,28 +70,6 @@ pub(crate) fn decided_keys(
     for decision in decisions {
         if shard.has(decision.producer()) {
             keys.push((decision.producer(), decision.epoch()))?;
-        }
-    }
-    Ok(keys)
-}
-
-/// The close that each decision wants.
-pub(crate) fn judged_keys(
-    alloc: Global,
-    decisions: &[SharedDecision],
-    shard: Shard,
-) -> Result<Vec<Close>, AllocError>
-    ensures { IfOk result (λ v. v.items ≡ judged shard.of shard.number decisions.now) }
-{
-    let mut keys = Vec::new(alloc);
-    for decision in decisions {
-        if shard.has(decision.producer()) {
-            keys.push(Close {
-                producer: decision.producer(),
-                epoch: decision.epoch(),
-                marker_epoch: decision.marker_epoch(),
-                kind: decision.kind(),
-            })?;
         }
     }
     Ok(keys)

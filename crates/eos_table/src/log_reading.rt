@@ -14,7 +14,7 @@ ghost use Rattle.eos_table.specs.steps.Held.{readout, Shows, Takes};
 use crate::held::{Held, Holding};
 use crate::known::{Known, Read, slots_for};
 use crate::last_values::{is_of_transaction_log, kind_of_status};
-use crate::log_faults::LogFaults;
+use crate::log_faults::{LogFaults, take_at};
 use crate::mark::{Mark, Place, producer_of};
 use crate::settled::{are_settled, is_open};
 use crate::shared::SharedDecision;
@@ -70,7 +70,7 @@ fn push_refused(
             id: id.clone()?,
             why,
         };
-        faults.take(place, kind)?;
+        take_at(faults, place, kind)?;
     }
     Ok(())
 }
@@ -159,7 +159,7 @@ fn take_record(
     match reading.known.read(alloc, item)? {
         Read::Unreadable(record) => {
             let kind = LogFaultKind::BadRecord { record };
-            reading.faults.take(place, kind)
+            take_at(&mut reading.faults, place, kind)
         }
         Read::Other => Ok(()),
         Read::Of(id, value) => {
@@ -213,7 +213,7 @@ fn push_open_id(
         let kind = LogFaultKind::Unfinished {
             id: mark.id.clone()?,
         };
-        return faults.take(end, kind);
+        return take_at(faults, end, kind);
     }
     Ok(())
 }

@@ -1,81 +1,112 @@
-//! All faults between decisions and logs, as one list.
+//! The faults between decisions and logs: the least of a shard, or all.
 
-ghost use Rattle.std.specs.Prelude.{◌≡◌, ◌++◌, OnOk, IfOk};
+ghost use Rattle.std.specs.Prelude.{◌≡◌, ◌<◌, ◌++◌, fold, OnOk, IfOk};
 ghost use Rattle.std.specs.List.{flat_map};
 ghost use Rattle.eos_table.specs.TransactionLog.{transaction_parts, decisions_of};
 ghost use Rattle.eos_table.specs.MatchFaults.{fault_cmp, Stands};
+ghost use Rattle.eos_table.specs.Shards.{IsAnswer};
 ghost use Rattle.eos_base.specs.AllOf.{IsAllOf};
-ghost use Rattle.eos_table.specs.MatchPlaces.{at_decision, at_closes, at_markers, at_names, gathered};
+ghost use Rattle.eos_table.specs.steps.KeptFaults.{none_kept};
+ghost use Rattle.eos_table.specs.steps.Shown.{found, decisions_at, closes_at, markers_at, names_at, gathered_in};
 
 use crate::MatchFault;
 use crate::decided::deciders_of;
+use crate::kept_faults::KeptFaults;
 use crate::key::{ended_keys, listed_keys, marked_keys, name_keys};
 use crate::one_shard::Shard;
-use crate::places::{push_closes, push_decisions, push_markers, push_names};
+use crate::places::{MatchFaults, push_closes, push_decisions, push_markers, push_names};
 use crate::shared::SharedDecision;
+use crate::table::TxnTable;
 use crate::transaction_log::decisions_in;
 use eos_base::distinct_in_order;
 use eos_kept::Part;
 use std::alloc::{AllocError, Global};
 
-/// What the decisions and their data show, one fault perhaps more than once.
+/// What the decisions and their data show.
 fn push_by_decision(
     alloc: Global,
-    faults: &mut Vec<MatchFault>,
+    faults: &mut MatchFaults,
     decisions: &[SharedDecision],
     parts: &[Part],
+    shard: Shard,
 ) -> Result<(), AllocError>
-    ensures { OnOk result (faults.new.items ≡ faults.old.items ++ (flat_map (at_decision decisions.now) decisions.now ++ at_closes decisions.now parts.now)) }
+    ensures { OnOk result (faults.new ≡ fold found faults.old (decisions_at shard.of shard.number decisions.now ++ closes_at shard.of shard.number decisions.now parts.now)) }
 {
-    let deciders = deciders_of(alloc, decisions)?;
-    let listed = listed_keys(alloc, decisions, Shard::only())?;
-    push_decisions(faults, &deciders, decisions)?;
-    push_closes(faults, &deciders, &listed, parts)?;
+    let deciders = deciders_of(alloc, decisions, shard)?;
+    let listed = listed_keys(alloc, decisions, shard)?;
+    push_decisions(faults, &deciders, decisions, shard)?;
+    push_closes(faults, &deciders, &listed, parts, shard)?;
     Ok(())
 }
 
 /// What the end markers show.
 fn push_by_marker(
     alloc: Global,
-    faults: &mut Vec<MatchFault>,
+    faults: &mut MatchFaults,
     decisions: &[SharedDecision],
     parts: &[Part],
+    shard: Shard,
 ) -> Result<(), AllocError>
-    ensures { OnOk result (faults.new.items ≡ faults.old.items ++ at_markers decisions.now parts.now) }
+    ensures { OnOk result (faults.new ≡ fold found faults.old (markers_at shard.of shard.number decisions.now parts.now)) }
 {
-    let wanted = ended_keys(alloc, decisions, Shard::only())?;
-    push_markers(faults, &wanted, parts)?;
+    let wanted = ended_keys(alloc, decisions, shard)?;
+    push_markers(faults, &wanted, parts, shard)?;
     Ok(())
 }
 
 /// What the partitions that decisions list show.
 fn push_by_name(
     alloc: Global,
-    faults: &mut Vec<MatchFault>,
+    faults: &mut MatchFaults,
     decisions: &[SharedDecision],
     parts: &[Part],
+    shard: Shard,
 ) -> Result<(), AllocError>
-    ensures { OnOk result (faults.new.items ≡ faults.old.items ++ at_names decisions.now parts.now) }
+    ensures { OnOk result (faults.new ≡ fold found faults.old (names_at shard.of shard.number decisions.now parts.now)) }
 {
     let there = name_keys(alloc, parts)?;
-    let marked = marked_keys(alloc, parts, Shard::only())?;
-    push_names(faults, &there, &marked, decisions)?;
+    let marked = marked_keys(alloc, parts, shard)?;
+    push_names(faults, &there, &marked, decisions, shard)?;
     Ok(())
 }
 
-/// The faults as they are found, one perhaps more than once.
-fn found(
+/// The faults of a shard, of which all are kept, one perhaps more than once, or the least.
+fn faults_of(
     alloc: Global,
     decisions: &[SharedDecision],
     parts: &[Part],
-) -> Result<Vec<MatchFault>, AllocError>
-    ensures { IfOk result (λ faults. faults.items ≡ gathered decisions.now parts.now) }
+    shard: Shard,
+    keeps_all: bool,
+) -> Result<MatchFaults, AllocError>
+    ensures { IfOk result (λ faults. faults ≡ fold found (none_kept keeps_all) (gathered_in shard.of shard.number decisions.now parts.now)) }
 {
-    let mut faults = Vec::new(alloc);
-    push_by_decision(alloc, &mut faults, decisions, parts)?;
-    push_by_marker(alloc, &mut faults, decisions, parts)?;
-    push_by_name(alloc, &mut faults, decisions, parts)?;
+    let mut faults = KeptFaults::new(alloc, keeps_all);
+    push_by_decision(alloc, &mut faults, decisions, parts, shard)?;
+    push_by_marker(alloc, &mut faults, decisions, parts, shard)?;
+    push_by_name(alloc, &mut faults, decisions, parts, shard)?;
     Ok(faults)
+}
+
+/// The least fault between the decisions and the partitions' logs among the producer ids of one shard, those whose
+/// remainder by `shards` (never negative) is `shard`; `None` where none stands there.
+///
+/// The parts may stand in any order. The least over all shards is the least of all.
+///
+/// # Errors
+/// Only want of memory.
+pub fn match_shard(
+    alloc: Global,
+    table: &TxnTable,
+    parts: &[Part],
+    shard: u32,
+    shards: u32,
+) -> Result<Option<MatchFault>, AllocError>
+    requires { shard < shards }
+    ensures { IfOk result (λ o. IsAnswer table.now parts.now shards shard o) }
+{
+    let shard = Shard::new(shard, shards);
+    let faults = faults_of(alloc, table.decisions(), parts, shard, false)?;
+    Ok(faults.into_least())
 }
 
 /// Every fault between the decisions of the transaction log and the partitions' logs that stands, in the order in which the
@@ -91,6 +122,6 @@ pub fn all_match_faults(alloc: Global, parts: &[Part]) -> Result<Vec<MatchFault>
     ensures { let ds = decisions_of (transaction_parts parts.now) in IfOk result (λ faults. IsAllOf fault_cmp (Stands ds parts.now) faults.items) }
 {
     let decisions = decisions_in(alloc, parts)?;
-    let faults = found(alloc, decisions.as_slice(), parts)?;
-    Ok(distinct_in_order(faults))
+    let faults = faults_of(alloc, decisions.as_slice(), parts, Shard::only(), true)?;
+    Ok(distinct_in_order(faults.into_all()))
 }

@@ -1,17 +1,19 @@
-//! What each decision, close, end marker and listed partition shows, put at the end of the list of faults.
+//! What each decision, close, end marker and listed partition of a shard shows.
 
-ghost use Rattle.std.specs.Prelude.{◌≡◌, ◌++◌, ◌∷◌, [], ◌&&◌, OnOk, Some, map};
+ghost use Rattle.std.specs.Prelude.{◌≡◌, ◌&&◌, OnOk, Some, map, fold};
 ghost use Rattle.std.specs.List.{flat_map};
 ghost use Rattle.std.specs.Ordering.{int_eq};
 ghost use Rattle.eos_touch.specs.Pair.{same_kind};
 ghost use Rattle.eos_txnlog.specs.PartitionSets.{names_in_topic};
 ghost use Rattle.eos_table.specs.MatchPlaces.{fault_of};
 ghost use Rattle.eos_table.specs.steps.Keys.{plain_name, plain_listed, plain_ended};
-ghost use Rattle.eos_table.specs.steps.Shown.{twice_by, decision_by, data_by, close_by, marker_by, name_by, closes_in, markers_in, names_in};
+ghost use Rattle.eos_table.specs.steps.Shown.{found, twice_by, decision_by, decision_in, data_by, close_by, marker_by, name_by, closes_in, markers_in, listed_by, names_in};
 
 use crate::decided::{Decided, Deciders, decided_of};
+use crate::kept_faults::KeptFaults;
 use crate::key::{Ended, Listed, NameRef, name_in, name_of_part};
 use crate::look::{is_ended, is_listed, is_name};
+use crate::one_shard::Shard;
 use crate::shared::SharedDecision;
 use crate::{MatchFault, MatchFaultKind};
 use eos_base::{PartitionName, Sorted};
@@ -21,42 +23,44 @@ use eos_kept::Part;
 use eos_txnlog::TopicPartitions;
 use std::alloc::AllocError;
 
+/// What is kept of the faults between decisions and logs.
+pub(crate) type MatchFaults = KeptFaults<MatchFault>;
+
 fn push_fault(
-    faults: &mut Vec<MatchFault>,
+    faults: &mut MatchFaults,
     producer: i64,
     epoch: i16,
     name: NameRef<'_>,
     kind: MatchFaultKind,
 ) -> Result<(), AllocError>
-    ensures { OnOk result (faults.new.items ≡ faults.old.items ++ fault_of producer epoch (Some (plain_name name.entry)) kind ∷ []) }
+    ensures { OnOk result (faults.new ≡ found faults.old (fault_of producer epoch (Some (plain_name name.entry)) kind)) }
 {
     let partition = PartitionName {
         topic: name.topic.clone()?,
         partition: name.partition,
     };
-    faults.push(MatchFault {
+    faults.take(MatchFault {
         producer,
         epoch,
         kind,
         partition: Some(partition),
-    })?;
-    Ok(())
+    })
 }
 
 // ---- decisions
 
 fn push_twice(
-    faults: &mut Vec<MatchFault>,
+    faults: &mut MatchFaults,
     decided: Option<Decided>,
     decision: &SharedDecision,
 ) -> Result<(), AllocError>
-    ensures { OnOk result (faults.new.items ≡ faults.old.items ++ twice_by decided decision.now) }
+    ensures { OnOk result (faults.new ≡ fold found faults.old (twice_by decided decision.now)) }
 {
     let Some(decided) = decided else {
         return Ok(());
     };
     if decided.is_twice {
-        faults.push(MatchFault {
+        faults.take(MatchFault {
             producer: decision.producer(),
             epoch: decision.epoch(),
             kind: MatchFaultKind::TwiceDecided,
@@ -67,11 +71,11 @@ fn push_twice(
 }
 
 fn push_decision(
-    faults: &mut Vec<MatchFault>,
+    faults: &mut MatchFaults,
     deciders: &Deciders,
     decision: &SharedDecision,
 ) -> Result<(), AllocError>
-    ensures { OnOk result (faults.new.items ≡ faults.old.items ++ decision_by deciders.now decision.now) }
+    ensures { OnOk result (faults.new ≡ fold found faults.old (decision_by deciders.now decision.now)) }
 {
     let decided = decided_of(deciders, decision.producer(), decision.epoch());
     push_twice(faults, decided, decision)
@@ -79,14 +83,17 @@ fn push_decision(
 
 /// What decisions show beside each other.
 pub(crate) fn push_decisions(
-    faults: &mut Vec<MatchFault>,
+    faults: &mut MatchFaults,
     deciders: &Deciders,
     decisions: &[SharedDecision],
+    shard: Shard,
 ) -> Result<(), AllocError>
-    ensures { OnOk result (faults.new.items ≡ faults.old.items ++ flat_map (decision_by deciders.now) decisions.now) }
+    ensures { OnOk result (faults.new ≡ fold found faults.old (flat_map (decision_in shard.of shard.number deciders.now) decisions.now)) }
 {
     for decision in decisions {
-        push_decision(faults, deciders, decision)?;
+        if shard.has(decision.producer()) {
+            push_decision(faults, deciders, decision)?;
+        }
     }
     Ok(())
 }
@@ -109,13 +116,13 @@ fn ends_as(decided: Decided, close: &Close) -> bool
 }
 
 fn push_data(
-    faults: &mut Vec<MatchFault>,
+    faults: &mut MatchFaults,
     decided: Option<Decided>,
     is_listed: bool,
     name: NameRef<'_>,
     close: &Close,
 ) -> Result<(), AllocError>
-    ensures { OnOk result (faults.new.items ≡ faults.old.items ++ data_by decided is_listed (plain_name name.entry) close.now) }
+    ensures { OnOk result (faults.new ≡ fold found faults.old (data_by decided is_listed (plain_name name.entry) close.now)) }
 {
     let Some(decided) = decided else {
         return push_fault(
@@ -151,13 +158,13 @@ fn push_data(
 }
 
 fn push_close(
-    faults: &mut Vec<MatchFault>,
+    faults: &mut MatchFaults,
     deciders: &Deciders,
     listed: &Sorted<Listed<'_>>,
     name: NameRef<'_>,
     close: &Close,
 ) -> Result<(), AllocError>
-    ensures { OnOk result (faults.new.items ≡ faults.old.items ++ close_by deciders.now (map plain_listed listed.now) (plain_name name.entry) close.now) }
+    ensures { OnOk result (faults.new ≡ fold found faults.old (close_by deciders.now (map plain_listed listed.now) (plain_name name.entry) close.now)) }
 {
     let key = Listed {
         producer: close.producer,
@@ -169,31 +176,35 @@ fn push_close(
 }
 
 fn push_closes_of(
-    faults: &mut Vec<MatchFault>,
+    faults: &mut MatchFaults,
     deciders: &Deciders,
     listed: &Sorted<Listed<'_>>,
     part: &Part,
+    shard: Shard,
 ) -> Result<(), AllocError>
-    ensures { OnOk result (faults.new.items ≡ faults.old.items ++ closes_in deciders.now (map plain_listed listed.now) part.now) }
+    ensures { OnOk result (faults.new ≡ fold found faults.old (closes_in shard.of shard.number deciders.now (map plain_listed listed.now) part.now)) }
 {
     let name = name_of_part(part);
     for close in part.closes() {
-        push_close(faults, deciders, listed, name, close)?;
+        if shard.has(close.producer) {
+            push_close(faults, deciders, listed, name, close)?;
+        }
     }
     Ok(())
 }
 
 /// What the data of the parts shows.
 pub(crate) fn push_closes(
-    faults: &mut Vec<MatchFault>,
+    faults: &mut MatchFaults,
     deciders: &Deciders,
     listed: &Sorted<Listed<'_>>,
     parts: &[Part],
+    shard: Shard,
 ) -> Result<(), AllocError>
-    ensures { OnOk result (faults.new.items ≡ faults.old.items ++ flat_map (closes_in deciders.now (map plain_listed listed.now)) parts.now) }
+    ensures { OnOk result (faults.new ≡ fold found faults.old (flat_map (closes_in shard.of shard.number deciders.now (map plain_listed listed.now)) parts.now)) }
 {
     for part in parts {
-        push_closes_of(faults, deciders, listed, part)?;
+        push_closes_of(faults, deciders, listed, part, shard)?;
     }
     Ok(())
 }
@@ -201,12 +212,12 @@ pub(crate) fn push_closes(
 // ---- end markers
 
 fn push_marker(
-    faults: &mut Vec<MatchFault>,
+    faults: &mut MatchFaults,
     wanted: &Sorted<Ended<'_>>,
     name: NameRef<'_>,
     marker: &Marker,
 ) -> Result<(), AllocError>
-    ensures { OnOk result (faults.new.items ≡ faults.old.items ++ marker_by (map plain_ended wanted.now) (plain_name name.entry) marker.now) }
+    ensures { OnOk result (faults.new ≡ fold found faults.old (marker_by (map plain_ended wanted.now) (plain_name name.entry) marker.now)) }
 {
     let key = Ended {
         producer: marker.producer,
@@ -227,29 +238,33 @@ fn push_marker(
 }
 
 fn push_markers_of(
-    faults: &mut Vec<MatchFault>,
+    faults: &mut MatchFaults,
     wanted: &Sorted<Ended<'_>>,
     part: &Part,
+    shard: Shard,
 ) -> Result<(), AllocError>
-    ensures { OnOk result (faults.new.items ≡ faults.old.items ++ markers_in (map plain_ended wanted.now) part.now) }
+    ensures { OnOk result (faults.new ≡ fold found faults.old (markers_in shard.of shard.number (map plain_ended wanted.now) part.now)) }
 {
     let name = name_of_part(part);
     for marker in part.markers() {
-        push_marker(faults, wanted, name, marker)?;
+        if shard.has(marker.producer) {
+            push_marker(faults, wanted, name, marker)?;
+        }
     }
     Ok(())
 }
 
 /// What the end markers of the parts show.
 pub(crate) fn push_markers(
-    faults: &mut Vec<MatchFault>,
+    faults: &mut MatchFaults,
     wanted: &Sorted<Ended<'_>>,
     parts: &[Part],
+    shard: Shard,
 ) -> Result<(), AllocError>
-    ensures { OnOk result (faults.new.items ≡ faults.old.items ++ flat_map (markers_in (map plain_ended wanted.now)) parts.now) }
+    ensures { OnOk result (faults.new ≡ fold found faults.old (flat_map (markers_in shard.of shard.number (map plain_ended wanted.now)) parts.now)) }
 {
     for part in parts {
-        push_markers_of(faults, wanted, part)?;
+        push_markers_of(faults, wanted, part, shard)?;
     }
     Ok(())
 }
@@ -257,13 +272,13 @@ pub(crate) fn push_markers(
 // ---- listed partitions
 
 fn push_name(
-    faults: &mut Vec<MatchFault>,
+    faults: &mut MatchFaults,
     there: &Sorted<NameRef<'_>>,
     marked: &Sorted<Ended<'_>>,
     decision: &SharedDecision,
     name: NameRef<'_>,
 ) -> Result<(), AllocError>
-    ensures { OnOk result (faults.new.items ≡ faults.old.items ++ name_by (map plain_name there.now) (map plain_ended marked.now) decision.now (plain_name name.entry)) }
+    ensures { OnOk result (faults.new ≡ fold found faults.old (name_by (map plain_name there.now) (map plain_ended marked.now) decision.now (plain_name name.entry))) }
 {
     let key = Ended {
         producer: decision.producer(),
@@ -293,13 +308,13 @@ fn push_name(
 }
 
 fn push_topic(
-    faults: &mut Vec<MatchFault>,
+    faults: &mut MatchFaults,
     there: &Sorted<NameRef<'_>>,
     marked: &Sorted<Ended<'_>>,
     decision: &SharedDecision,
     topic: &TopicPartitions,
 ) -> Result<(), AllocError>
-    ensures { OnOk result (faults.new.items ≡ faults.old.items ++ flat_map (name_by (map plain_name there.now) (map plain_ended marked.now) decision.now) (names_in_topic topic.now)) }
+    ensures { OnOk result (faults.new ≡ fold found faults.old (flat_map (name_by (map plain_name there.now) (map plain_ended marked.now) decision.now) (names_in_topic topic.now))) }
 {
     for partition in topic.numbers.as_slice() {
         push_name(faults, there, marked, decision, name_in(topic, partition))?;
@@ -308,12 +323,12 @@ fn push_topic(
 }
 
 fn push_names_of(
-    faults: &mut Vec<MatchFault>,
+    faults: &mut MatchFaults,
     there: &Sorted<NameRef<'_>>,
     marked: &Sorted<Ended<'_>>,
     decision: &SharedDecision,
 ) -> Result<(), AllocError>
-    ensures { OnOk result (faults.new.items ≡ faults.old.items ++ names_in (map plain_name there.now) (map plain_ended marked.now) decision.now) }
+    ensures { OnOk result (faults.new ≡ fold found faults.old (listed_by (map plain_name there.now) (map plain_ended marked.now) decision.now)) }
 {
     for topic in decision.partitions() {
         push_topic(faults, there, marked, decision, topic)?;
@@ -323,15 +338,18 @@ fn push_names_of(
 
 /// What the partitions that decisions list show.
 pub(crate) fn push_names(
-    faults: &mut Vec<MatchFault>,
+    faults: &mut MatchFaults,
     there: &Sorted<NameRef<'_>>,
     marked: &Sorted<Ended<'_>>,
     decisions: &[SharedDecision],
+    shard: Shard,
 ) -> Result<(), AllocError>
-    ensures { OnOk result (faults.new.items ≡ faults.old.items ++ flat_map (names_in (map plain_name there.now) (map plain_ended marked.now)) decisions.now) }
+    ensures { OnOk result (faults.new ≡ fold found faults.old (flat_map (names_in shard.of shard.number (map plain_name there.now) (map plain_ended marked.now)) decisions.now)) }
 {
     for decision in decisions {
-        push_names_of(faults, there, marked, decision)?;
+        if shard.has(decision.producer()) {
+            push_names_of(faults, there, marked, decision)?;
+        }
     }
     Ok(())
 }

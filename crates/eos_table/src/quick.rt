@@ -8,9 +8,9 @@ ghost use Rattle.eos_table.specs.steps.Wanted.{IsOnce, IsMine, AgreesAt, AgreeAt
 
 use crate::agree::agrees;
 use crate::key::decided_keys;
+use crate::look::are_apart;
 use crate::one_shard::Shard;
 use crate::owners::owners_of;
-use crate::shard::twice_found;
 use crate::shared::SharedDecision;
 use crate::wanted::WantedTable;
 use eos_base::{Sorted, Workers, are_all};
@@ -35,10 +35,7 @@ fn is_once(alloc: Global, decisions: &[SharedDecision], shard: Shard) -> Result<
 {
     let pairs = decided_keys(alloc, decisions, shard)?;
     let keys = Sorted::of(pairs);
-    match twice_found(keys.as_slice()) {
-        None => Ok(true),
-        Some(_) => Ok(false),
-    }
+    Ok(are_apart(keys.as_slice()))
 }
 
 /// Whether the part at this place is of the thread with this rest after a division of its owner's number by the number of threads, or

@@ -1,6 +1,6 @@
 -- What a reading of the transaction log has of the records that it took up, as what was asked to be held of them says: each of them;
 -- or tables of them, which are given up where one doesn't stand apart or a partition's end leaves something unfinished; or nothing.
-use Rattle.std.specs.Prelude.{◌≡◌, List, [], ◌++◌}
+use Rattle.std.specs.Prelude.{◌≡◌, List, []}
 use Rattle.eos_txnlog.specs.declared.decision.Decision.{Decision}
 use Rattle.eos_verdict.specs.declared.log_fault.LogFault.{LogFault}
 use Rattle.eos_table.specs.declared.held.Held.{Held}

@@ -9,7 +9,6 @@ use Rattle.eos_base.specs.PartitionNames.{name_cmp}
 use Rattle.eos_batch.specs.declared.marker.Kind.{Kind}
 use Rattle.eos_batch.specs.declared.marker.Marker.{Marker}
 use Rattle.eos_txnlog.specs.declared.decision.Decision.{Decision}
-use Rattle.eos_fold.specs.declared.close.Close.{Close}
 use Rattle.eos_fold.specs.Closes.{rank_of}
 use Rattle.eos_fold.specs.Parts.{part_name, PartLog}
 use Rattle.eos_txnlog.specs.PartitionSets.{names_of}
@@ -41,9 +40,6 @@ ended_cmp = then_cmp (on (λ x. x.0) int_cmp) (then_cmp (on (λ x. x.1) int_cmp)
 
 abbrev pub decided : ℕ → ℕ → List Decision → List (ℤ × ℤ)
 decided n s ds = flat_map (λ (d : Decision). if mine n s d.producer then (d.producer, d.epoch) ∷ [] else []) ds
-
-abbrev pub judged : ℕ → ℕ → List Decision → List Close
-judged n s ds = flat_map (λ (d : Decision). if mine n s d.producer then record { producer = d.producer; epoch = d.epoch; marker_epoch = d.marker_epoch; kind = d.kind } ∷ [] else []) ds
 
 abbrev pub listed_of : Decision → List PartitionName → List (ℤ × ℤ × PartitionName)
 listed_of d names = map (λ m. (d.producer, d.epoch, m)) names

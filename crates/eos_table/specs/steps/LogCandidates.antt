@@ -3,7 +3,6 @@
 use Rattle.std.specs.Prelude.{ℕ, ℤ, pos, negsuc, Bool, false, Option, Some, None, List, [], ◌∷◌, ◌++◌, map, fold, if◌then◌else◌, Ok, Err, unsigned_abs}
 use Rattle.std.specs.List.{flat_map}
 use Rattle.std.specs.Ordering.{nat_cmp, is_eq}
-use Rattle.eos_base.specs.Least.{lesser_of}
 use Rattle.eos_txnlog.specs.declared.value.TxnValue.{TxnValue}
 use Rattle.eos_txnlog.specs.declared.decision.Decision.{Decision}
 use Rattle.eos_txnlog.specs.Following.{step_verdict, StepResult}
@@ -17,6 +16,7 @@ use Rattle.eos_verdict.specs.declared.log_fault.LogFaultKind.{LogFaultKind}
 use Rattle.eos_verdict.specs.declared.log_fault.LogFaultKind.TheVariants.{BadRecord, Step, Unfinished}
 use Rattle.eos_table.specs.TransactionLog.{Id, State, nothing, flat, Unskipped, content_of, step_at, next_state, state_after, steps_of, decision_of, is_unfinished}
 use Rattle.eos_table.specs.LogFaults.{log_cmp}
+use Rattle.eos_table.specs.steps.KeptFaults.{Kept, none_kept, kept_with}
 
 abbrev pub fault_at : ℤ → ℕ → LogFaultKind → LogFault
 fault_at n o kind = record { partition = n; offset = o; kind = kind }
@@ -62,19 +62,15 @@ part_faults p = faults_after nothing p.number p.items
     ++ flat_map (open_at (state_after nothing p.items) p.number (unsigned_abs p.end)) (map mark_of (steps_of p))
 
 -- what is kept of the faults that are found: all of them, or the least
-pub record Faults : Type 0 where
-  pub keeps_all : Bool
-  pub least : Option LogFault
-  pub all : List LogFault
+abbrev pub Faults : Type 0
+Faults = Kept LogFault
 
 abbrev pub none_found : Bool → Faults
-none_found keeps_all = record { keeps_all = keeps_all; least = None; all = [] }
+none_found = none_kept
 
 -- with one more
 abbrev pub taken : Faults → LogFault → Faults
-taken kept f =
-    if kept.keeps_all then record { keeps_all = kept.keeps_all; least = kept.least; all = kept.all ++ f ∷ [] }
-    else record { keeps_all = kept.keeps_all; least = lesser_of log_cmp kept.least f; all = kept.all }
+taken = kept_with log_cmp
 
 pub record LogRead : Type 0 where
   pub marks : List Mark

@@ -1,5 +1,5 @@
--- What each place shows by look-ups in tables of the decisions and of the logs.
-use Rattle.std.specs.Prelude.{ℤ, Bool, ◌&&◌, Option, Some, None, List, [], ◌∷◌, ◌++◌, if◌then◌else◌}
+-- What each place shows by look-ups in tables of the decisions and of the logs, and what is gathered of a shard.
+use Rattle.std.specs.Prelude.{ℕ, ℤ, Bool, ◌&&◌, Option, Some, None, List, [], ◌∷◌, ◌++◌, if◌then◌else◌}
 use Rattle.std.specs.List.{flat_map}
 use Rattle.std.specs.Ordering.{int_eq}
 use Rattle.std.specs.BTreeMap.{BTreeMap, get}
@@ -15,9 +15,11 @@ use Rattle.eos_fold.specs.declared.close.Close.{Close}
 use Rattle.eos_fold.specs.Parts.{part_name, PartLog}
 use Rattle.eos_verdict.specs.declared.match_fault.MatchFault.{MatchFault}
 use Rattle.eos_verdict.specs.declared.match_fault.MatchFaultKind.TheVariants.{TwiceDecided, Undecided, WrongKind, NotListed, StrayMarker, AbsentPartition, MissingMarker}
-use Rattle.eos_table.specs.steps.Keys.{pair_cmp, listed_cmp, ended_cmp}
+use Rattle.eos_table.specs.MatchFaults.{fault_cmp}
+use Rattle.eos_table.specs.steps.KeptFaults.{Kept as Found, kept_with}
+use Rattle.eos_table.specs.steps.Keys.{mine, pair_cmp, listed_cmp, ended_cmp}
 use Rattle.eos_table.specs.declared.decided.Decided.{Decided}
-use Rattle.eos_table.specs.MatchPlaces.{fault_of, unless}
+use Rattle.eos_table.specs.MatchPlaces.{fault_of, unless, at_decision, at_close, at_marker, at_listed}
 
 abbrev pub Kept : Type 0
 Kept = BTreeMap (ℤ × ℤ) Decided
@@ -54,13 +56,44 @@ name_by there marked d name =
     if is_found name_cmp there name then unless (is_found ended_cmp marked (d.producer, d.marker_epoch, d.kind, name)) (fault_of d.producer d.epoch (Some name) MissingMarker)
     else fault_of d.producer d.epoch (Some name) AbsentPartition ∷ []
 
--- ---- all places
+abbrev pub listed_by : List PartitionName → Ends → Decision → List MatchFault
+listed_by there marked d = flat_map (name_by there marked d) (names_of d.partitions)
 
-abbrev pub closes_in : Kept → Lists → PartLog → List MatchFault
-closes_in kept lists p = flat_map (close_by kept lists (part_name p)) p.closes
+-- ---- all places of a shard
 
-abbrev pub markers_in : Ends → PartLog → List MatchFault
-markers_in wanted p = flat_map (marker_by wanted (part_name p)) p.markers
+-- what a producer id shows there
+abbrev pub in_shard : ℕ → ℕ → ℤ → List MatchFault → List MatchFault
+in_shard n s producer shown = if mine n s producer then shown else []
 
-abbrev pub names_in : List PartitionName → Ends → Decision → List MatchFault
-names_in there marked d = flat_map (name_by there marked d) (names_of d.partitions)
+abbrev pub decision_in : ℕ → ℕ → Kept → Decision → List MatchFault
+decision_in n s kept d = in_shard n s d.producer (decision_by kept d)
+
+abbrev pub closes_in : ℕ → ℕ → Kept → Lists → PartLog → List MatchFault
+closes_in n s kept lists p = flat_map (λ (c : Close). in_shard n s c.producer (close_by kept lists (part_name p) c)) p.closes
+
+abbrev pub markers_in : ℕ → ℕ → Ends → PartLog → List MatchFault
+markers_in n s wanted p = flat_map (λ (m : Marker). in_shard n s m.producer (marker_by wanted (part_name p) m)) p.markers
+
+abbrev pub names_in : ℕ → ℕ → List PartitionName → Ends → Decision → List MatchFault
+names_in n s there marked d = in_shard n s d.producer (listed_by there marked d)
+
+-- what stands between decisions and logs
+abbrev pub decisions_at : ℕ → ℕ → List Decision → List MatchFault
+decisions_at n s ds = flat_map (λ (d : Decision). in_shard n s d.producer (at_decision ds d)) ds
+
+abbrev pub closes_at : ℕ → ℕ → List Decision → List PartLog → List MatchFault
+closes_at n s ds ps = flat_map (λ (p : PartLog). flat_map (λ (c : Close). in_shard n s c.producer (at_close ds (part_name p) c)) p.closes) ps
+
+abbrev pub markers_at : ℕ → ℕ → List Decision → List PartLog → List MatchFault
+markers_at n s ds ps = flat_map (λ (p : PartLog). flat_map (λ (m : Marker). in_shard n s m.producer (at_marker ds (part_name p) m)) p.markers) ps
+
+abbrev pub names_at : ℕ → ℕ → List Decision → List PartLog → List MatchFault
+names_at n s ds ps = flat_map (λ (d : Decision). in_shard n s d.producer (flat_map (at_listed ps d) (names_of d.partitions))) ds
+
+abbrev pub gathered_in : ℕ → ℕ → List Decision → List PartLog → List MatchFault
+gathered_in n s ds ps = decisions_at n s ds ++ (closes_at n s ds ps ++ (markers_at n s ds ps ++ names_at n s ds ps))
+
+-- ---- what is kept of it
+
+abbrev pub found : Found MatchFault → MatchFault → Found MatchFault
+found = kept_with fault_cmp

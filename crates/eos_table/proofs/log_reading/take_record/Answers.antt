@@ -1,8 +1,6 @@
 use Rattle.std.proofs.Common.{◌≡◌, ap, sym, subst, ◌∙◌}
 use Rattle.std.specs.Result.{OnOk}
-use Rattle.eos_table.specs.TransactionLog.{next_state, step_at, state_of}
-use Rattle.eos_table.specs.steps.LogCandidates.{faults_at}
-use Rattle.eos_table.specs.steps.Held.{readout, Takes}
+use Rattle.eos_table.specs.TransactionLog.{next_state, state_of}
 use Rattle.eos_table.specs.steps.Reads.{content_read}
 use Rattle.eos_table.proofs.log_reading.take_record.Goals as goal
 

@@ -2,8 +2,8 @@ use Rattle.std.proofs.Common.{◌≡◌, ◌+◌, ◌-◌, ◌∙◌, ℤ, refl,
 use Rattle.std.specs.Ordering.{int_eq}
 use Rattle.std.proofs.lemmas.Bool.{cases_lt}
 use Rattle.std.proofs.lemmas.Bool.Decides.{Decides-int_eq}
-use Rattle.eos_table.specs.steps.Candidates.{pair_at}
-use Rattle.eos_table.proofs.look.first_twice.Goals as goal
+use Rattle.eos_table.specs.steps.Neighbours.{pair_at}
+use Rattle.eos_table.proofs.look.are_apart.Goals as goal
 
 apart : (x y : ℤ × ℤ) → (int_eq x.0 y.0 && int_eq x.1 y.1) ≡ false → x ≡ y → ⊥
 apart x y f e =
