@@ -9,7 +9,7 @@ use Rattle.eos_machine.specs.Answers.{Answer}
 use Rattle.eos_cluster.specs.Courses.{Course, IsTakenUnder, IsStepUnder, IsCounted}
 use Rattle.eos_drive.specs.declared.deed.Deed.{Deed}
 use Rattle.eos_drive.specs.declared.deed.Deed.TheVariants.{Asked, Set, Noted}
-use Rattle.eos_drive.specs.declared.deed.Note.{Note}
+use Rattle.eos_machine.specs.declared.event.Note.{Note}
 use Rattle.eos_drive.specs.Driven.{is_taken, recorded, after_deed, after, IsAnswered, AreAnswered, Leads, IsKept}
 use Rattle.eos_drive.specs.steps.Drives.{Origin, Drive, with_deeds, recorded_in, set_in, noted_in, IsOnCourse}
 

@@ -3,8 +3,8 @@ use Rattle.std.specs.Prelude.{◌≡◌, Bool, true, false, List}
 use Rattle.std.specs.List.{count_by}
 use Rattle.eos_drive.specs.declared.deed.Deed.{Deed}
 use Rattle.eos_drive.specs.declared.deed.Deed.TheVariants.{Asked, Set, Noted}
-use Rattle.eos_drive.specs.declared.deed.Note.{Note}
-use Rattle.eos_drive.specs.declared.deed.Note.TheVariants.{Lost, Repeated, Erred}
+use Rattle.eos_machine.specs.declared.event.Note.{Note}
+use Rattle.eos_machine.specs.declared.event.Note.TheVariants.{Lost, Repeated, Erred}
 use Rattle.eos_drive.specs.declared.tally.Tally.{Tally}
 
 -- an event

@@ -3,7 +3,6 @@
 ghost use Rattle.std.specs.Prelude.{◌≡◌};
 ghost use Rattle.eos_drive.specs.steps.Drives.{HasAsked};
 
-use crate::deed::Note;
 use crate::driver::Driver;
 use crate::instance::{Choice, Instance, Turn};
 use crate::network::Network;
@@ -12,7 +11,7 @@ use crate::rates::{Happening, Rates, Said};
 use crate::settings::Settings;
 use bytes::Bytes;
 use eos_cluster::Cluster;
-use eos_machine::{Event, Reply};
+use eos_machine::{Event, Note, Reply};
 use std::alloc::{AllocError, Global};
 use std::mem;
 

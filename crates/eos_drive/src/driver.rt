@@ -9,11 +9,10 @@ ghost use Rattle.eos_drive.specs.Driven.{after_deed, IsDriven, IsKept};
 ghost use Rattle.eos_drive.specs.steps.Drives.{recorded_in, set_in, noted_in, lost_in, is_election, HasAsked, HasDone};
 ghost use Rattle.eos_drive.specs.declared.deed.Deed.{Deed};
 
-use crate::deed::Note;
 use crate::history::History;
 use bytes::Bytes;
 use eos_cluster::Cluster;
-use eos_machine::{Event, Reply, Switches};
+use eos_machine::{Event, Note, Reply, Switches};
 use std::alloc::AllocError;
 use std::marker::Model;
 use std::snapshot::Snapshot;

@@ -64,12 +64,13 @@ impl Actors {
         requires { driver.old.course ≡ cluster.old }
         ensures { HasAsked cluster.old driver.old cluster.new driver.new }
     {
-        if let Some(next) = self.network.next(cluster, choice)? {
-            let message = next.message;
-            let reply = driver.ask(cluster, Event::WriteMarker { message })?;
-            if is_message(reply) {
-                self.network.passed(next, true)?;
-            }
+        let Some(next) = self.network.next(cluster, choice)? else {
+            return Ok(());
+        };
+        let message = next.message;
+        let reply = driver.ask(cluster, Event::WriteMarker { message })?;
+        if is_message(reply) {
+            self.network.passed(next, true)?;
         }
         Ok(())
     }

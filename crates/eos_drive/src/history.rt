@@ -6,10 +6,10 @@ ghost use Rattle.eos_cluster.specs.Courses.{IsStepUnder, IsCounted};
 ghost use Rattle.eos_drive.specs.Driven.{is_taken, after_deed, recorded, IsKept};
 ghost use Rattle.eos_drive.specs.Totals.{IsTallyOf};
 
-use crate::deed::{Deed, Note};
+use crate::deed::Deed;
 use crate::tally::{Tally, tally_of};
 use eos_cluster::Cluster;
-use eos_machine::{Event, Reply, Switches};
+use eos_machine::{Event, Note, Reply, Switches};
 use std::alloc::{AllocError, Global};
 use std::marker::Model;
 

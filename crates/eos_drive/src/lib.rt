@@ -33,7 +33,8 @@ mod tail;
 mod tally;
 mod threads;
 
-pub use deed::{Deed, Note};
+pub use deed::Deed;
+pub use eos_machine::Note;
 pub use finished::{Call, Called, Entries, Entry, Finished};
 pub use history::History;
 pub use mishap::{ChosenMishap, Input, MISHAPS, Mishap};

@@ -4,8 +4,8 @@ ghost use Rattle.std.specs.Prelude.{◌≡◌, IfOk};
 ghost use Rattle.std.specs.List.{count_by};
 ghost use Rattle.eos_drive.specs.Totals.{is_event, notes_loss, notes_repetition, is_loss, is_repetition, IsTallyOf};
 
-use crate::deed::{Deed, Note};
-use eos_machine::{Event, Reply};
+use crate::deed::Deed;
+use eos_machine::{Event, Note, Reply};
 use std::alloc::{AllocError, Global};
 
 /// How often what happened in a run.

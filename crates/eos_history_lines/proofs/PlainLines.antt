@@ -21,13 +21,14 @@ use Rattle.eos_machine.specs.declared.switches.Switches.{Switches}
 use Rattle.eos_history_lines.specs.declared.line.Head.{Head}
 use Rattle.eos_history_lines.specs.declared.line.Deed.{Deed}
 use Rattle.eos_history_lines.specs.declared.line.Deed.TheVariants.{Asked, Set, Noted}
-use Rattle.eos_history_lines.specs.declared.line.Note.{Note}
-use Rattle.eos_history_lines.specs.declared.line.Note.TheVariants as notes
+use Rattle.eos_machine.specs.declared.event.Note.{Note}
+use Rattle.eos_machine.specs.declared.event.Note.TheVariants as notes
 use Rattle.eos_history_lines.specs.declared.line.Line.{Line}
 use Rattle.eos_history_lines.specs.declared.line.Tail.{Tail}
 use Rattle.eos_history_lines.specs.declared.line.Row.{Row}
 use Rattle.eos_history_lines.specs.declared.line.Row.TheVariants as rows
-use Rattle.eos_history_lines.specs.Lines.{count, integer, topic_value, named_if, switch_names, switches_value, with_sizes, with_asked, head_value, with_claim, claim_value, claimed, offset_or_null, count_or_null, with_group, with_arguments, with_event, with_value, with_reply, with_subject, with_note, with_deed, line_value, with_tail, tail_value, row_value}
+use Rattle.eos_manifest.specs.Objects.{count, integer, text_value}
+use Rattle.eos_history_lines.specs.Lines.{named_if, switch_names, switches_value, with_sizes, with_asked, head_value, with_claim, claim_value, claimed, offset_or_null, count_or_null, with_group, with_arguments, with_event, with_value, with_reply, with_subject, with_note, with_deed, line_value, with_tail, tail_value, row_value}
 
 -- no float, at most so deep, and each member of an object once
 pub record Flat (n : ℕ) (d : Data) : Type 0 where
@@ -106,7 +107,7 @@ integer_flat n (negsuc m) = record { plain = refl; shallow = omega arith; once =
 string_flat : (n : ℕ) (text : List ℕ) → Flat n (string text)
 string_flat n text = record { plain = refl; shallow = omega arith; once = tt }
 
-topic_flat : (n : ℕ) (topic : List ℕ) → Flat (n + 1) (topic_value topic)
+topic_flat : (n : ℕ) (topic : List ℕ) → Flat (n + 1) (text_value topic)
 topic_flat n topic = by (is_utf8 topic)
   where
     by : (b : Bool) → Flat (n + 1) (cond b (string topic) (object (put (codes "hex") (string (encode_lower topic)) no_members)))

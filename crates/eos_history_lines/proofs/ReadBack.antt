@@ -23,15 +23,16 @@ use Rattle.eos_machine.specs.Switching.{switch_name}
 use Rattle.eos_history_lines.specs.declared.line.Head.{Head}
 use Rattle.eos_history_lines.specs.declared.line.Deed.{Deed}
 use Rattle.eos_history_lines.specs.declared.line.Deed.TheVariants.{Asked, Set, Noted}
-use Rattle.eos_history_lines.specs.declared.line.Note.{Note}
-use Rattle.eos_history_lines.specs.declared.line.Note.TheVariants as notes
+use Rattle.eos_machine.specs.declared.event.Note.{Note}
+use Rattle.eos_machine.specs.declared.event.Note.TheVariants as notes
 use Rattle.eos_history_lines.specs.declared.line.Line.{Line}
 use Rattle.eos_history_lines.specs.declared.line.Tail.{Tail}
 use Rattle.eos_history_lines.specs.declared.line.Row.{Row}
 use Rattle.eos_history_lines.specs.declared.line.Row.TheVariants as rows
 use Rattle.eos_history_lines.specs.Fits.{FitsClaim, FitsEvent, FitsNote, FitsDeed, FitsRow}
 use Rattle.eos_history_lines.specs.Words.{event_word, note_word}
-use Rattle.eos_history_lines.specs.Lines.{count, integer, topic_value, named_if, switch_names, switches_value, with_sizes, with_asked, head_value, with_claim, claim_value, claimed, offset_or_null, count_or_null, with_group, with_arguments, with_event, with_value, with_reply, with_subject, with_note, with_deed, line_value, with_tail, tail_value, row_value}
+use Rattle.eos_manifest.specs.Objects.{count, integer, text_value}
+use Rattle.eos_history_lines.specs.Lines.{named_if, switch_names, switches_value, with_sizes, with_asked, head_value, with_claim, claim_value, claimed, offset_or_null, count_or_null, with_group, with_arguments, with_event, with_value, with_reply, with_subject, with_note, with_deed, line_value, with_tail, tail_value, row_value}
 use Rattle.eos_history_lines.specs.steps.Reading.{as_small, claim_in, claim_or_none, offset_or_none, partition_or_none, event_called, group_from, event_in, reply_in, reply_from, is_text, is_named, switches_in, head_in, note_called, deed_from, deed_of, deed_in, line_in, tail_in, row_from, row_in}
 
 -- ---- looking up what was put
@@ -207,8 +208,8 @@ event_back (Fetch session source) ms h none =
     rw (get_member-put (codes "source") (count source) one, other (codes "session") (codes "source") (count source) one refl, get_member-put (codes "session") (count session) ms) refl
 event_back (Members group) ms h none = members_back group ms none
 event_back (BrokerRestart topic partition) ms h none =
-    let one = put (codes "topic") (topic_value topic) ms in
-    rw (get_member-put (codes "partition") (count partition) one, other (codes "topic") (codes "partition") (count partition) one refl, get_member-put (codes "topic") (topic_value topic) ms, h) refl
+    let one = put (codes "topic") (text_value topic) ms in
+    rw (get_member-put (codes "partition") (count partition) one, other (codes "topic") (codes "partition") (count partition) one refl, get_member-put (codes "topic") (text_value topic) ms, h) refl
 event_back CoordinatorRestart ms h none = refl
 event_back (Deliver message) ms h none = rw (get_member-put (codes "message") (count message) ms) refl
 event_back (TimeOut application) ms h none = rw (get_member-put (codes "application") (count application) ms) refl
@@ -223,7 +224,7 @@ event_back (AddPartition session partition) ms h none =
 event_back (WriteMarker message) ms h none = rw (get_member-put (codes "message") (count message) ms) refl
 event_back (Complete application) ms h none = rw (get_member-put (codes "application") (count application) ms) refl
 event_back (Elect topic partition kept) ms h none =
-    let one = put (codes "topic") (topic_value topic) ms in
+    let one = put (codes "topic") (text_value topic) ms in
     let two = put (codes "partition") (count partition) one in
     rw (
       get_member-put (codes "kept") (count kept) two,
@@ -231,7 +232,7 @@ event_back (Elect topic partition kept) ms h none =
       get_member-put (codes "partition") (count partition) one,
       other (codes "topic") (codes "kept") (count kept) two refl,
       other (codes "topic") (codes "partition") (count partition) one refl,
-      get_member-put (codes "topic") (topic_value topic) ms,
+      get_member-put (codes "topic") (text_value topic) ms,
       h,
     ) refl
 
@@ -386,7 +387,7 @@ noted_back : (n : Note) (ms : JsonMembers) → FitsNote n → note_called (note_
 unfolding with_subject
 noted_back (notes.Lost message) ms h = rw (get_member-put (codes "message") (count message) ms) refl
 noted_back (notes.Repeated message) ms h = rw (get_member-put (codes "message") (count message) ms) refl
-noted_back (notes.Erred mishap) ms h = rw (get_member-put (codes "mishap") (topic_value mishap) ms, h) refl
+noted_back (notes.Erred mishap) ms h = rw (get_member-put (codes "mishap") (text_value mishap) ms, h) refl
 
 deed_back : (d : Deed) (ms : JsonMembers) → FitsDeed d → get_member (codes "note") ms ≡ None → get_member (codes "set") ms ≡ None → get_member (codes "reply") ms ≡ None → get_member (codes "group") ms ≡ None → deed_in (object (with_deed d ms)) ≡ Some d
 unfolding with_deed with_note switches_value

@@ -7,8 +7,8 @@ use Rattle.eos_machine.specs.declared.event.Event.{Event}
 use Rattle.eos_machine.specs.declared.event.Event.TheVariants.{Feed, Start, Produce, Commit, End, Resume, Fetch, Members, BrokerRestart, CoordinatorRestart, Deliver, TimeOut, AddPartition, WriteMarker, Complete, Elect}
 use Rattle.eos_history_lines.specs.declared.line.Deed.{Deed}
 use Rattle.eos_history_lines.specs.declared.line.Deed.TheVariants.{Asked, Set, Noted}
-use Rattle.eos_history_lines.specs.declared.line.Note.{Note}
-use Rattle.eos_history_lines.specs.declared.line.Note.TheVariants as notes
+use Rattle.eos_machine.specs.declared.event.Note.{Note}
+use Rattle.eos_machine.specs.declared.event.Note.TheVariants as notes
 use Rattle.eos_history_lines.specs.declared.line.Row.{Row}
 use Rattle.eos_history_lines.specs.declared.line.Row.TheVariants as rows
 

@@ -1,10 +1,8 @@
 -- The lines of a history as JSON (RFC 8259): the first, those of what was done, and the last. Numbers count from 0, but that of a line.
 use Rattle.std.specs.Prelude.{ℕ, ℤ, ◌==◌, Bool, List, [], ◌∷◌, ◌++◌, codes, Option, None, Some, if◌then◌else◌}
-use Rattle.std.specs.Str.{is_utf8}
-use Rattle.hex.specs.Hex.{encode_lower}
-use Rattle.serde_json.specs.Data.{Data, Members as JsonMembers, no_members, null, boolean, object, array, string, number, unsigned, put}
-use Rattle.serde_json.specs.Find.{of_integer}
+use Rattle.serde_json.specs.Data.{Data, Members as JsonMembers, no_members, null, boolean, object, array, string, put}
 use Rattle.serde_json.specs.View.{items_of}
+use Rattle.eos_manifest.specs.Objects.{count, integer, text_value}
 use Rattle.eos_machine.specs.declared.config.Config.{Config}
 use Rattle.eos_machine.specs.declared.item.Claim.{Claim}
 use Rattle.eos_machine.specs.declared.event.Event.{Event}
@@ -17,23 +15,13 @@ use Rattle.eos_machine.specs.Switching.{switch_name}
 use Rattle.eos_history_lines.specs.declared.line.Head.{Head}
 use Rattle.eos_history_lines.specs.declared.line.Deed.{Deed}
 use Rattle.eos_history_lines.specs.declared.line.Deed.TheVariants.{Asked, Set, Noted}
-use Rattle.eos_history_lines.specs.declared.line.Note.{Note}
-use Rattle.eos_history_lines.specs.declared.line.Note.TheVariants as notes
+use Rattle.eos_machine.specs.declared.event.Note.{Note}
+use Rattle.eos_machine.specs.declared.event.Note.TheVariants as notes
 use Rattle.eos_history_lines.specs.declared.line.Line.{Line}
 use Rattle.eos_history_lines.specs.declared.line.Tail.{Tail}
 use Rattle.eos_history_lines.specs.declared.line.Row.{Row}
 use Rattle.eos_history_lines.specs.declared.line.Row.TheVariants as rows
 use Rattle.eos_history_lines.specs.Words.{kind_word, note_word, event_word, reply_word}
-
-abbrev pub count : ℕ → Data
-count n = number (unsigned n)
-
-abbrev pub integer : ℤ → Data
-integer z = number (of_integer z)
-
--- a topic that is UTF-8 as that text, another as an object with its digits
-abbrev pub topic_value : List ℕ → Data
-topic_value bytes = if is_utf8 bytes then string bytes else object (put (codes "hex") (string (encode_lower bytes)) no_members)
 
 -- ---- switches
 
@@ -70,7 +58,7 @@ head_value h = object (with_asked h (with_sizes h.config (put (codes "schema") (
 unfoldable pub with_claim : Claim → JsonMembers → JsonMembers
 with_claim c ms =
     put (codes "of") (integer c.of) (put (codes "output") (integer c.output) (put (codes "offset") (integer c.offset)
-    (put (codes "partition") (integer c.partition) (put (codes "topic") (topic_value c.topic) ms))))
+    (put (codes "partition") (integer c.partition) (put (codes "topic") (text_value c.topic) ms))))
 
 unfoldable pub claim_value : Claim → Data
 claim_value c = object (with_claim c no_members)
@@ -94,7 +82,7 @@ with_target session partition ms = put (codes "partition") (count_or_null partit
 
 -- a partition by its topic and its number there
 abbrev pub with_partition : List ℕ → ℕ → JsonMembers → JsonMembers
-with_partition topic partition ms = put (codes "partition") (count partition) (put (codes "topic") (topic_value topic) ms)
+with_partition topic partition ms = put (codes "partition") (count partition) (put (codes "topic") (text_value topic) ms)
 
 -- the first group isn't named
 unfoldable pub with_group : ℕ → JsonMembers → JsonMembers
@@ -148,7 +136,7 @@ with_reply (Some reply) ms = with_value reply (put (codes "reply") (string (repl
 unfoldable pub with_subject : Note → JsonMembers → JsonMembers
 with_subject (notes.Lost message) ms = put (codes "message") (count message) ms
 with_subject (notes.Repeated message) ms = put (codes "message") (count message) ms
-with_subject (notes.Erred mishap) ms = put (codes "mishap") (topic_value mishap) ms
+with_subject (notes.Erred mishap) ms = put (codes "mishap") (text_value mishap) ms
 
 unfoldable pub with_note : Note → JsonMembers → JsonMembers
 with_note note ms = with_subject note (put (codes "note") (string (note_word note)) ms)

@@ -3,16 +3,16 @@
 ghost use Rattle.std.specs.Prelude.{◌≡◌, codes, IfOk, OnOk};
 ghost use Rattle.serde_json.specs.Data.{put as with_member};
 ghost use Rattle.serde_json.specs.View.{view};
-ghost use Rattle.eos_history_lines.specs.steps.Held.{held};
-ghost use Rattle.eos_history_lines.specs.Lines.{count, with_claim, claimed, offset_or_null, count_or_null, with_group, with_target, with_arguments, with_event};
+ghost use Rattle.eos_manifest.specs.Objects.{held, count};
+ghost use Rattle.eos_history_lines.specs.Lines.{with_claim, claimed, offset_or_null, count_or_null, with_group, with_target, with_arguments, with_event};
 ghost use Rattle.eos_history_lines.specs.steps.Reading.{event_in, plain_event, event_of_session, feed_in, start_in, deliver_in, members_in, time_out_in, write_marker_in, complete_in, produce_in, commit_in, end_in, fetch_in, claim_within, claim_in, offset_within, add_in, partition_within};
 
 use crate::members::{count_in, integer_in, kind_called, size_in, small_in, text_in};
-use crate::object::Object;
 use crate::of_partition::{put_election, put_partition, read_election, read_restart};
 use crate::words::{event_word, kind_word};
 use bytes::Bytes;
 use eos_machine::{Claim, Event};
+use eos_manifest::Object;
 use serde_json::Value;
 use std::alloc::{AllocError, Global};
 
@@ -137,7 +137,7 @@ fn value_of_claim(alloc: Global, claim: &Option<Claim>) -> Result<Value, AllocEr
 fn put_claim(out: &mut Object, claim: &Claim) -> Result<(), AllocError>
     ensures { OnOk result (held out.new ≡ with_claim claim.now (held out.old)) }
 {
-    out.put_topic("topic", claim.topic.as_slice())?;
+    out.put_text("topic", claim.topic.as_slice())?;
     out.put_integer("partition", i64::from(claim.partition))?;
     out.put_integer("offset", claim.offset)?;
     out.put_integer("output", i64::from(claim.output))?;

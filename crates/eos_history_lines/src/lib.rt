@@ -21,7 +21,6 @@ mod members;
 mod mistake;
 mod names;
 mod notes;
-mod object;
 mod of_partition;
 mod reader;
 mod replies;
@@ -34,8 +33,9 @@ mod values;
 mod words;
 mod writer;
 
+pub use eos_machine::Note;
 pub use fault::LineFault;
-pub use line::{Deed, Head, Line, Note, Row, Tail};
+pub use line::{Deed, Head, Line, Row, Tail};
 pub use mistake::Mistake;
 pub use rows::{head_of, row_of};
 pub use schedule::{Schedule, ScheduleFault, schedule_of};

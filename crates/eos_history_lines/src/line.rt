@@ -1,7 +1,6 @@
 //! What the lines of a history say.
 
-use bytes::Bytes;
-use eos_machine::{Config, Event, Reply, Switches};
+use eos_machine::{Config, Event, Note, Reply, Switches};
 
 /// What a simulated cluster was, and what it was asked for: the first line.
 #[derive(Clone, Copy, Debug)]
@@ -24,17 +23,6 @@ pub enum Deed {
     Set(Switches),
     /// This happened beside the cluster.
     Noted(Note),
-}
-
-/// What happened beside a cluster.
-#[derive(Debug, Drop)]
-pub enum Note {
-    /// The network lost this message.
-    Lost(u64),
-    /// The network delivers this message again, or late.
-    Repeated(u64),
-    /// A transaction makes this mishap, as the command line names it, `NAME@TOPIC-N:O`.
-    Erred(Bytes),
 }
 
 /// A line between the first and the last.

@@ -2,16 +2,16 @@
 
 ghost use Rattle.std.specs.Prelude.{◌≡◌, IfOk, OnOk, codes, option_map};
 ghost use Rattle.serde_json.specs.View.{view};
-ghost use Rattle.eos_history_lines.specs.steps.Held.{held};
+ghost use Rattle.eos_manifest.specs.Objects.{held};
 ghost use Rattle.eos_history_lines.specs.Lines.{with_subject, with_note};
 ghost use Rattle.eos_history_lines.specs.steps.Reading.{count_in, text_in, note_called, note_said};
-ghost use Rattle.eos_history_lines.specs.declared.line.Note.TheVariants as notes;
+ghost use Rattle.eos_machine.specs.declared.event.Note.TheVariants as notes;
 
-use crate::line::Note;
 use crate::members::{count_in, text_in};
-use crate::object::Object;
 use crate::words::note_word;
 use bytes::Bytes;
+use eos_machine::Note;
+use eos_manifest::Object;
 use serde_json::Value;
 use std::alloc::{AllocError, Global};
 
@@ -29,7 +29,7 @@ fn put_subject(out: &mut Object, note: &Note) -> Result<(), AllocError>
 {
     match note {
         Note::Lost(message) | Note::Repeated(message) => out.put_count("message", *message),
-        Note::Erred(mishap) => out.put_topic("mishap", mishap.as_slice()),
+        Note::Erred(mishap) => out.put_text("mishap", mishap.as_slice()),
     }
 }
 

@@ -3,14 +3,14 @@
 ghost use Rattle.std.specs.Prelude.{◌≡◌, codes, IfOk, OnOk};
 ghost use Rattle.serde_json.specs.Data.{put as with_member};
 ghost use Rattle.serde_json.specs.View.{view};
-ghost use Rattle.eos_history_lines.specs.steps.Held.{held};
-ghost use Rattle.eos_history_lines.specs.Lines.{count, with_partition};
+ghost use Rattle.eos_manifest.specs.Objects.{held, count};
+ghost use Rattle.eos_history_lines.specs.Lines.{with_partition};
 ghost use Rattle.eos_history_lines.specs.steps.Reading.{restart_in, elect_in};
 
 use crate::members::{count_in, size_in, text_in};
-use crate::object::Object;
 use bytes::Bytes;
 use eos_machine::Event;
+use eos_manifest::Object;
 use serde_json::Value;
 use std::alloc::{AllocError, Global};
 
@@ -22,7 +22,7 @@ pub(crate) fn put_partition(
 ) -> Result<(), AllocError>
     ensures { OnOk result (held out.new ≡ with_partition topic.now partition (held out.old)) }
 {
-    out.put_topic("topic", topic.as_slice())?;
+    out.put_text("topic", topic.as_slice())?;
     out.put_size("partition", partition)
 }
 

@@ -6,7 +6,6 @@ ghost use Rattle.eos_machine.specs.Switching.{switch_name};
 ghost use Rattle.eos_history_lines.specs.Lines.{named_if, switch_names, switches_value};
 ghost use Rattle.eos_history_lines.specs.steps.Reading.{is_text, is_named, switches_in};
 
-use crate::object::value_of_text;
 use eos_machine::{Switch, Switches};
 use serde_json::Value;
 use std::alloc::{AllocError, Global};
@@ -52,8 +51,8 @@ fn push_if(
     ensures { OnOk result (map view names.new.items ≡ map view names.old.items ++ named_if is_on (switch_name switch)) }
 {
     if is_on {
-        let name = value_of_text(alloc, switch.name())?;
-        names.push(name)?;
+        let name = String::from_str(alloc, switch.name())?;
+        names.push(Value::String(name))?;
     }
     Ok(())
 }

@@ -1,16 +1,17 @@
 //! The members of lines.
 
 ghost use Rattle.std.specs.Prelude.{◌≡◌, OnOk};
-ghost use Rattle.eos_history_lines.specs.steps.Held.{held, with_head, with_line};
+ghost use Rattle.eos_manifest.specs.Objects.{held};
+ghost use Rattle.eos_history_lines.specs.steps.Held.{with_head, with_line};
 ghost use Rattle.eos_history_lines.specs.Lines.{with_sizes, with_reply, with_tail};
 
 use crate::events::put_event;
 use crate::line::{Deed, Head, Line, Tail};
 use crate::notes::put_note;
-use crate::object::Object;
 use crate::switch_names::value_of_switches;
 use crate::words::reply_word;
 use eos_machine::{Config, Reply};
+use eos_manifest::Object;
 use serde_json::Value;
 use std::alloc::{AllocError, Global};
 
@@ -65,16 +66,7 @@ fn put_reply(out: &mut Object, reply: Option<Reply>) -> Result<(), AllocError>
     out.put_str("reply", reply_word(reply))?;
     match reply {
         Reply::Done(number) => out.put_count("value", number),
-        Reply::Fenced
-        | Reply::OutOfOrder
-        | Reply::DuplicateKept
-        | Reply::WrongState
-        | Reply::Busy
-        | Reply::StaleGeneration
-        | Reply::EpochsSpent
-        | Reply::Unknown
-        | Reply::OutOfMemory
-        | Reply::Full => Ok(()),
+        _ => Ok(()),
     }
 }
 

@@ -3,9 +3,8 @@
 ghost use Rattle.std.specs.Prelude.{◌≡◌};
 ghost use Rattle.eos_history_lines.specs.Words.{kind_word, note_word, event_word, reply_word};
 
-use crate::line::Note;
 use eos_batch::Kind;
-use eos_machine::{Event, Reply};
+use eos_machine::{Event, Note, Reply};
 
 pub(crate) fn kind_word(kind: Kind) -> &'static str
     ensures { result.now ≡ kind_word kind }

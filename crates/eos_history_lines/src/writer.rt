@@ -7,11 +7,11 @@ ghost use Rattle.serde_json.specs.Written.{has_float, compact_text, outline};
 ghost use Rattle.json.specs.Strict.{HasUniqueKeys};
 ghost use Rattle.eos_history_lines.specs.Lines.{head_value, line_value, tail_value};
 ghost use Rattle.eos_history_lines.specs.Names.{NamesOnce};
-ghost use Rattle.eos_history_lines.specs.steps.Held.{held};
+ghost use Rattle.eos_manifest.specs.Objects.{held};
 
 use crate::line::{Head, Line, Tail};
-use crate::object::Object;
 use crate::values::{put_head, put_line, put_tail};
+use eos_manifest::Object;
 use std::alloc::{AllocError, Global};
 
 /// The first line of a history, with its line feed. It reads back as its value, and names each member once.

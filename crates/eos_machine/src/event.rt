@@ -1,4 +1,4 @@
-//! What may happen to a cluster, and what it answers.
+//! What may happen to a cluster, what it answers, and what happens beside it.
 
 use crate::item::Claim;
 use bytes::Bytes;
@@ -113,4 +113,16 @@ pub enum Reply {
     OutOfMemory,
     /// 2^31 events were taken. Nothing has changed.
     Full,
+}
+
+/// What happens beside a cluster.
+#[derive(Clone, Debug, Drop)]
+pub enum Note {
+    /// The network lost the message of this number. It may arrive all the same, when it is sent again.
+    Lost(u64),
+    /// The network delivers the message of this number again, or late: that is the next event. What a client sends again isn't noted.
+    Repeated(u64),
+    /// A transaction makes this mishap, `NAME@TOPIC-N:O`, as the command line names it: what it asks next for the outputs of this input
+    /// of its group, or for its offset, is wrong.
+    Erred(Bytes),
 }

@@ -13,7 +13,7 @@ mod switches;
 mod writer;
 
 pub use config::Config;
-pub use event::{Event, Reply};
+pub use event::{Event, Note, Reply};
 pub use item::{Claim, Entry, Item, LogIndexes, Status};
 pub use state::{Coordinator, Election, Message, Producer, Session, leader_epoch};
 pub use switches::{Switch, Switches};

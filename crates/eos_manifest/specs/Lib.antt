@@ -6,4 +6,5 @@ pub mod Head
 pub mod Lines
 pub mod Listing
 pub mod Manifests
+pub mod Objects
 pub mod steps

@@ -9,7 +9,7 @@ use Rattle.eos_verdict.specs.declared.verdict.Verdict.TheVariants.{Yes, No}
 use Rattle.eos_notes.specs.declared.note.Note.{Note}
 use Rattle.eos_notes.specs.declared.tally.Tallies.{Tallies}
 use Rattle.eos_report.specs.declared.about.About.{About}
-use Rattle.eos_report.specs.Values.{count}
+use Rattle.eos_manifest.specs.Objects.{count}
 use Rattle.eos_report.specs.declared.dates.Dates.{Dates}
 use Rattle.eos_report.specs.DatedValues.{dated_items}
 use Rattle.eos_report.specs.Reports.{note_items, with_verdict, program_value, with_about, report_value}

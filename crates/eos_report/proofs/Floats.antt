@@ -26,7 +26,8 @@ use Rattle.eos_verdict.specs.declared.verdict.Verdict.{Verdict}
 use Rattle.eos_verdict.specs.declared.verdict.Verdict.TheVariants.{Yes, No}
 use Rattle.eos_verdict.specs.VerdictNames.{phase_of, name_of}
 use Rattle.eos_verdict.specs.FaultTexts.{fault_text}
-use Rattle.eos_report.specs.Values.{count, integer, text_value, with_partition, with_place, place_value}
+use Rattle.eos_manifest.specs.Objects.{count, integer, text_value}
+use Rattle.eos_report.specs.Values.{with_partition, with_place, place_value}
 use Rattle.eos_report.specs.FaultValues.{with_details, with_partition_fault, with_id, with_refusal, with_log_fault, with_found, with_match_fault, with_visible_details, with_visible_fault, with_claim, with_group, with_output_fault, with_where, code_of, with_fault, fault_value}
 use Rattle.eos_report.specs.DatedValues.{with_timestamp, with_timestamps, dated_value}
 use Rattle.eos_report.specs.declared.dates.Timestamps.{Timestamps}

@@ -7,7 +7,7 @@ use Rattle.eos_verdict.specs.declared.verdict.Fault.{Fault}
 use Rattle.eos_verdict.specs.declared.verdict.Fault.TheVariants.{Partition as InPartition, Log, Match, Lineage}
 use Rattle.eos_report.specs.declared.dates.Timestamps.{Timestamps}
 use Rattle.eos_report.specs.FaultValues.{with_fault}
-use Rattle.eos_report.specs.Values.{integer}
+use Rattle.eos_manifest.specs.Objects.{integer}
 
 unfoldable pub with_timestamp : List ℕ → Option ℤ → Members → Members
 with_timestamp name None ms = ms

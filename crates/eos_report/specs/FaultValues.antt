@@ -24,7 +24,8 @@ use Rattle.eos_verdict.specs.declared.lineage_fault.LineageFault.TheVariants as 
 use Rattle.eos_verdict.specs.declared.verdict.Fault.{Fault}
 use Rattle.eos_verdict.specs.declared.verdict.Fault.TheVariants.{Partition as InPartition, Log, Match, Lineage}
 use Rattle.eos_verdict.specs.VerdictNames.{phase_of, number_of, name_of}
-use Rattle.eos_report.specs.Values.{text_value, count, integer, with_partition, with_place, place_value}
+use Rattle.eos_manifest.specs.Objects.{text_value, count, integer}
+use Rattle.eos_report.specs.Values.{with_partition, with_place, place_value}
 
 -- ---- phase 1
 

@@ -4,7 +4,8 @@ use Rattle.serde_json.specs.Data.{Data, Members, no_members, object, string, put
 use Rattle.eos_notes.specs.ManifestNotes.{internal_name}
 use Rattle.eos_notes.specs.declared.note.Note.{Note}
 use Rattle.eos_notes.specs.declared.note.Note.TheVariants.{NoApplication, Unlisted, PastEnd, NoPartition, Gap, NothingCommitted, NoInternal, Behind, EpochFalls, OtherEpoch}
-use Rattle.eos_report.specs.Values.{text_value, count, integer, with_partition}
+use Rattle.eos_manifest.specs.Objects.{text_value, count, integer}
+use Rattle.eos_report.specs.Values.{with_partition}
 
 unfoldable pub with_note : Note → Members → Members
 with_note NoApplication ms = put (codes "kind") (string (codes "NoApplication")) ms

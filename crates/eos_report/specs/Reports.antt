@@ -14,7 +14,7 @@ use Rattle.eos_verdict.specs.declared.verdict.Verdict.TheVariants.{Yes, No}
 use Rattle.eos_notes.specs.declared.note.Note.{Note}
 use Rattle.eos_report.specs.declared.about.About.{About}
 use Rattle.eos_report.specs.declared.about.Times.{Times}
-use Rattle.eos_report.specs.Values.{count}
+use Rattle.eos_manifest.specs.Objects.{count}
 use Rattle.eos_report.specs.declared.dates.Dates.{Dates}
 use Rattle.eos_report.specs.declared.dates.Timestamps.{Timestamps}
 use Rattle.eos_report.specs.DatedValues.{dated_items}

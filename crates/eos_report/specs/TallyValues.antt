@@ -7,7 +7,8 @@ use Rattle.eos_notes.specs.declared.tally.PartitionTally.{PartitionTally}
 use Rattle.eos_notes.specs.declared.tally.SourceTally.{SourceTally}
 use Rattle.eos_notes.specs.declared.tally.GroupTally.{GroupTally}
 use Rattle.eos_notes.specs.declared.tally.Tallies.{Tallies}
-use Rattle.eos_report.specs.Values.{text_value, count, integer, with_partition}
+use Rattle.eos_manifest.specs.Objects.{text_value, count, integer}
+use Rattle.eos_report.specs.Values.{with_partition}
 
 -- what the topic is
 unfoldable pub with_roles : TopicRoles → Members → Members

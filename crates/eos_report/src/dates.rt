@@ -1,11 +1,11 @@
 //! When the records were written that faults name, in the JSON objects of these.
 
 ghost use Rattle.std.specs.Prelude.{◌≡◌, OnOk, drop};
-ghost use Rattle.eos_report.specs.steps.Held.{held};
+ghost use Rattle.eos_manifest.specs.Objects.{held};
 ghost use Rattle.eos_report.specs.DatedValues.{with_timestamp, with_timestamps, first_timestamps};
 
-use crate::object::Object;
 use eos_base::Listed;
+use eos_manifest::Object;
 use eos_verdict::{Fault, LineageFault};
 use std::alloc::AllocError;
 

@@ -2,18 +2,19 @@
 
 ghost use Rattle.std.specs.Prelude.{◌≡◌, IfOk, OnOk, option_map, string_bytes};
 ghost use Rattle.serde_json.specs.View.{view};
-ghost use Rattle.eos_report.specs.steps.Held.{held};
+ghost use Rattle.eos_manifest.specs.Objects.{held};
 ghost use Rattle.eos_report.specs.FaultValues.{with_details, with_partition_fault, with_id, with_refusal, with_log_fault, with_found, with_match_fault, with_visible_details, with_visible_fault, with_claim, with_group, with_output_fault, with_where, code_of, with_fault, fault_value};
 ghost use Rattle.eos_report.specs.DatedValues.{dated_value};
 
 use crate::dates::{Timestamps, put_timestamps};
-use crate::object::Object;
+use crate::place::{put_partition, put_place, put_record};
 use bytes::Bytes;
 use eos_base::PartitionName;
 use eos_claims::{OutputFault, Place};
 use eos_commits::{VisibleFault, VisibleFaultKind};
 use eos_evidence::GroupId;
 use eos_fold::{PartitionFault, PartitionFaultKind};
+use eos_manifest::Object;
 use eos_table::{LogFault, LogFaultKind, MatchFault};
 use eos_verdict::{Fault, LineageFault};
 use serde_json::Value;
@@ -86,7 +87,7 @@ fn put_where(out: &mut Object, fault: &Fault) -> Result<(), AllocError>
 fn put_partition_fault(out: &mut Object, fault: &PartitionFault) -> Result<(), AllocError>
     ensures { OnOk result (held out.new ≡ with_partition_fault fault.now (held out.old)) }
 {
-    out.put_record(fault.topic.as_slice(), fault.partition, fault.offset)?;
+    put_record(out, fault.topic.as_slice(), fault.partition, fault.offset)?;
     put_details(out, fault.kind)?;
     Ok(())
 }
@@ -119,7 +120,7 @@ fn put_log_fault(out: &mut Object, fault: &LogFault) -> Result<(), AllocError>
     ensures { OnOk result (held out.new ≡ with_log_fault fault.now (held out.old)) }
 {
     let topic = "__transaction_state";
-    out.put_record(topic.as_bytes(), fault.partition, fault.offset)?;
+    put_record(out, topic.as_bytes(), fault.partition, fault.offset)?;
     put_id(out, fault.kind.id())?;
     put_refusal(out, &fault.kind)?;
     Ok(())
@@ -164,7 +165,7 @@ fn put_found(out: &mut Object, partition: &Option<PartitionName>) -> Result<(), 
 {
     match partition {
         None => Ok(()),
-        Some(name) => out.put_partition(name.topic.as_slice(), name.partition),
+        Some(name) => put_partition(out, name.topic.as_slice(), name.partition),
     }
 }
 
@@ -175,7 +176,7 @@ fn put_visible_fault(out: &mut Object, fault: &VisibleFault) -> Result<(), Alloc
     ensures { OnOk result (held out.new ≡ with_visible_fault fault.now (held out.old)) }
 {
     let name = &fault.partition;
-    out.put_record(name.topic.as_slice(), name.partition, fault.offset)?;
+    put_record(out, name.topic.as_slice(), name.partition, fault.offset)?;
     put_visible_details(out, fault.kind)?;
     Ok(())
 }
@@ -198,7 +199,7 @@ fn put_output_fault(
 ) -> Result<(), AllocError>
     ensures { OnOk result (held out.new ≡ with_output_fault group.now fault.now (held out.old)) }
 {
-    out.put_place("source", &fault.source)?;
+    put_place(out, "source", &fault.source)?;
     out.put_count("output", u64::from(fault.output))?;
     put_claim(out, &fault.at)?;
     put_group(out, group)?;
@@ -211,7 +212,7 @@ fn put_claim(out: &mut Object, at: &Option<Place>) -> Result<(), AllocError>
 {
     match at {
         None => Ok(()),
-        Some(place) => out.put_place("at", place),
+        Some(place) => put_place(out, "at", place),
     }
 }
 

@@ -3,7 +3,7 @@
 ghost use Rattle.std.specs.Prelude.{◌≡◌, [], IfOk, OnOk, codes, string_bytes};
 ghost use Rattle.serde_json.specs.Data.{Data, array, no_members, object, put as with_member};
 ghost use Rattle.serde_json.specs.View.{view};
-ghost use Rattle.eos_report.specs.steps.Held.{held};
+ghost use Rattle.eos_manifest.specs.Objects.{held};
 ghost use Rattle.eos_report.specs.TallyValues.{with_tallies};
 ghost use Rattle.eos_report.specs.steps.Frames.{IsFrame};
 ghost use Rattle.eos_report.specs.Reports.{counts_value, note_items, with_verdict, program_value, with_about, report_value, AreSeconds, AreTimes, IsReportText, IsTimedReportText};
@@ -12,8 +12,8 @@ use crate::about::{About, Times};
 use crate::dates::Dates;
 use crate::json_faults::filled;
 use crate::note::values_of_notes;
-use crate::object::Object;
 use crate::tally::put_tallies;
+use eos_manifest::Object;
 use eos_notes::{Note, Tallies};
 use eos_verdict::{Counts, Fault, Verdict};
 use serde_json::Value;

@@ -9,11 +9,11 @@ ghost use Rattle.eos_text.specs.Adding.{Adds};
 ghost use Rattle.eos_verdict.specs.FaultTexts.{fault_text};
 ghost use Rattle.eos_report.specs.Lines.{line_value, json_line, fault_json_line, count_value, list_json};
 ghost use Rattle.eos_report.specs.FaultValues.{fault_value};
-ghost use Rattle.eos_report.specs.steps.Held.{held};
+ghost use Rattle.eos_manifest.specs.Objects.{held};
 
 use crate::json_fault::value_of_fault;
-use crate::object::Object;
 use crate::verdict_json;
+use eos_manifest::Object;
 use eos_text::push_text;
 use eos_verdict::{Fault, Verdict, text_of_fault};
 use serde_json::{Value, json};

@@ -3,14 +3,15 @@
 ghost use Rattle.std.specs.Prelude.{◌≡◌, IfOk, OnOk, codes};
 ghost use Rattle.serde_json.specs.Data.{string, put as with_member};
 ghost use Rattle.serde_json.specs.View.{view, items_view};
-ghost use Rattle.eos_report.specs.steps.Held.{held};
-ghost use Rattle.eos_report.specs.Values.{text_value, count, with_partition};
+ghost use Rattle.eos_manifest.specs.Objects.{held, count, text_value};
+ghost use Rattle.eos_report.specs.Values.{with_partition};
 ghost use Rattle.eos_report.specs.NoteValues.{with_note, note_value};
 ghost use Rattle.eos_report.specs.Reports.{note_items};
 
-use crate::object::Object;
+use crate::place::put_partition;
 use eos_base::PartitionName;
 use eos_evidence::GroupId;
+use eos_manifest::Object;
 use eos_notes::{Note, OtherRecord};
 use serde_json::Value;
 use std::alloc::{AllocError, Global};
@@ -84,7 +85,7 @@ fn put_fall(out: &mut Object, partition: &PartitionName, offset: u64) -> Result<
     ensures { OnOk result (held out.new ≡ with_member (codes "offset") (count offset) (with_partition partition.now.topic partition.now.partition (with_member (codes "kind") (string (codes "EpochFalls")) (held out.old)))) }
 {
     out.put_str("kind", "EpochFalls")?;
-    out.put_partition(partition.topic.as_slice(), partition.partition)?;
+    put_partition(out, partition.topic.as_slice(), partition.partition)?;
     out.put_count("offset", offset)
 }
 
@@ -108,7 +109,7 @@ fn put_of_partition(
     ensures { OnOk result (held out.new ≡ with_partition partition.now.topic partition.now.partition (with_member (codes "group") (text_value group.now) (with_member (codes "kind") (string kind.now) (held out.old)))) }
 {
     put_of_group(out, kind, group)?;
-    out.put_partition(partition.topic.as_slice(), partition.partition)
+    put_partition(out, partition.topic.as_slice(), partition.partition)
 }
 
 fn put_of_group(out: &mut Object, kind: &str, group: &GroupId) -> Result<(), AllocError>

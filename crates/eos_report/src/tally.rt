@@ -3,11 +3,12 @@
 ghost use Rattle.std.specs.Prelude.{◌≡◌, IfOk, OnOk};
 ghost use Rattle.serde_json.specs.Data.{boolean, put as with_member};
 ghost use Rattle.serde_json.specs.View.{view, items_view};
-ghost use Rattle.eos_report.specs.steps.Held.{held};
+ghost use Rattle.eos_manifest.specs.Objects.{held};
 ghost use Rattle.eos_report.specs.TallyValues.{with_roles, roles_value, visible_value, with_sizes, with_tally, partition_value, partition_items, with_source, source_value, source_items, with_group_tally, group_value, group_items, groups_value, with_tallies};
 
-use crate::object::Object;
+use crate::place::put_partition;
 use eos_base::Listed;
+use eos_manifest::Object;
 use eos_notes::{GroupTally, PartitionTally, SourceTally, Tallies, TopicRoles};
 use serde_json::Value;
 use std::alloc::{AllocError, Global};
@@ -52,7 +53,7 @@ fn value_of_partition(alloc: Global, tally: &PartitionTally) -> Result<Value, Al
 fn put_tally(alloc: Global, out: &mut Object, tally: &PartitionTally) -> Result<(), AllocError>
     ensures { OnOk result (held out.new ≡ with_tally tally.now (held out.old)) }
 {
-    out.put_partition(tally.topic.as_slice(), tally.partition)?;
+    put_partition(out, tally.topic.as_slice(), tally.partition)?;
     let roles = value_of_roles(alloc, tally.roles)?;
     out.put("roles", roles)?;
     out.put_integer("end", tally.end)?;
@@ -163,7 +164,7 @@ fn value_of_source(alloc: Global, source: &SourceTally) -> Result<Value, AllocEr
 fn put_source(out: &mut Object, source: &SourceTally) -> Result<(), AllocError>
     ensures { OnOk result (held out.new ≡ with_source source.now (held out.old)) }
 {
-    out.put_partition(source.topic.as_slice(), source.partition)?;
+    put_partition(out, source.topic.as_slice(), source.partition)?;
     out.put_integer("committed", source.committed)?;
     out.put_integer("end", source.end)?;
     out.put_count("visible_inputs_below", source.visible_inputs_below)

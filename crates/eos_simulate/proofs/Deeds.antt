@@ -13,17 +13,16 @@ use Rattle.eos_machine.specs.declared.event.Reply.{Reply}
 use Rattle.eos_cluster.specs.Courses.{Course}
 use Rattle.eos_drive.specs.declared.deed.Deed.{Deed}
 use Rattle.eos_drive.specs.declared.deed.Deed.TheVariants as done
-use Rattle.eos_drive.specs.declared.deed.Note.{Note}
+use Rattle.eos_machine.specs.declared.event.Note.{Note}
 use Rattle.eos_drive.specs.Driven.{is_taken, recorded, IsKept}
 use Rattle.eos_history_lines.specs.declared.line.Deed.{Deed as SaidDeed}
 use Rattle.eos_history_lines.specs.declared.line.Deed.TheVariants as said
-use Rattle.eos_history_lines.specs.declared.line.Note.{Note as SaidNote}
 use Rattle.eos_history_lines.specs.declared.line.Line.{Line}
 use Rattle.eos_simulate.specs.declared.replaying.ReplayFault.{ReplayFault}
 use Rattle.eos_simulate.specs.declared.replaying.ReplayFault.TheVariants.{NotAtRest, Limit, Otherwise, Totals, OutOfMemory}
-use Rattle.eos_simulate.specs.Histories.{new_course, LoseNothing, note_of, act_said, acts_of, acts_said, reply_said, Agrees, IsAsSaid}
+use Rattle.eos_simulate.specs.Histories.{new_course, LoseNothing, act_said, acts_of, acts_said, reply_said, Agrees, IsAsSaid}
 use Rattle.eos_simulate.specs.Replays.{DiffersFirst, IfOtherwise}
-use Rattle.eos_simulate.specs.steps.Passing.{HavePassed, HasPassed, IsNoted, HasDiffered, DiffersAfter, IsOther}
+use Rattle.eos_simulate.specs.steps.Passing.{HavePassed, HasPassed, HasDiffered, DiffersAfter, IsOther}
 use Rattle.eos_drive.proofs.OneAfterAnother as deeds
 use Rattle.eos_drive.proofs.MoreDeeds as more
 
@@ -54,11 +53,8 @@ pub kept_same : (s : Course) (before now : List Deed) → now ≡ before → IsK
 kept_same s before now e = subst (λ (x : List Deed). IsKept s before s x) (sym e) (deeds.kept_still s before)
 
 -- a note more
-pub is_noted : (before now : List Deed) (n : Note) (m : SaidNote) → note_of n ≡ m → now ≡ before ++ done.Noted n ∷ [] → IsNoted before m now
-is_noted before now n m same kept = record { note = n; same = same; kept = kept }
-
-pub kept_note : (s : Course) (before now : List Deed) (m : SaidNote) → IsNoted before m now → IsKept s before s now
-kept_note s before now m h = more.kept_noted s before now h.note h.kept
+pub kept_note : (s : Course) (before now : List Deed) (n : Note) → now ≡ before ++ done.Noted n ∷ [] → IsKept s before s now
+kept_note = more.kept_noted
 
 -- an event more that was taken
 pub taken_deed : (ds now : List Deed) (e f : Event) (r : Reply) → is_taken r ≡ true → now ≡ recorded ds e r → e ≡ f → now ≡ ds ++ done.Asked f r ∷ []
@@ -81,11 +77,11 @@ passed_set before now l u is kept = record {
   says = record { act = sym (ap act_said is); reply = subst (λ (d : SaidDeed). Agrees None (reply_said d)) (sym is) tt };
 }
 
-pub passed_note : (before now : List Deed) (l : Line) (m : SaidNote) → l.deed ≡ said.Noted m → IsNoted before m now → HasPassed before now l
-passed_note before now l m is h = record {
-  deed = done.Noted h.note;
-  kept = h.kept;
-  says = record { act = ap (λ (x : SaidNote). said.Noted x) h.same ∙ sym (ap act_said is); reply = subst (λ (d : SaidDeed). Agrees None (reply_said d)) (sym is) tt };
+pub passed_note : (before now : List Deed) (l : Line) (n : Note) → l.deed ≡ said.Noted n → now ≡ before ++ done.Noted n ∷ [] → HasPassed before now l
+passed_note before now l n is kept = record {
+  deed = done.Noted n;
+  kept = kept;
+  says = record { act = sym (ap act_said is); reply = subst (λ (d : SaidDeed). Agrees None (reply_said d)) (sym is) tt };
 }
 
 pub differed : (before now : List Deed) (l told : Line) (e : Event) (s : Option Reply) (met : Reply) → l.deed ≡ said.Asked e s → now ≡ before ++ done.Asked e met ∷ [] → IfSome s (λ r. met ≢ r) → IsSome s

@@ -11,15 +11,11 @@ use Rattle.eos_cluster.specs.Courses.{Course}
 use Rattle.eos_machine.specs.Evidences.{IsEvidenceOf}
 use Rattle.eos_drive.specs.declared.deed.Deed.{Deed}
 use Rattle.eos_drive.specs.declared.deed.Deed.TheVariants as done
-use Rattle.eos_drive.specs.declared.deed.Note.{Note}
-use Rattle.eos_drive.specs.declared.deed.Note.TheVariants as notes
 use Rattle.eos_machine.specs.Elections.{LosesNothing}
 use Rattle.eos_drive.specs.Driven.{after, Leads}
 use Rattle.eos_drive.specs.Totals.{is_event, is_loss, is_repetition}
 use Rattle.eos_history_lines.specs.declared.line.Deed.{Deed as SaidDeed}
 use Rattle.eos_history_lines.specs.declared.line.Deed.TheVariants as said
-use Rattle.eos_history_lines.specs.declared.line.Note.{Note as SaidNote}
-use Rattle.eos_history_lines.specs.declared.line.Note.TheVariants as said_notes
 use Rattle.eos_history_lines.specs.declared.line.Line.{Line}
 use Rattle.eos_history_lines.specs.declared.line.Tail.{Tail}
 
@@ -41,17 +37,11 @@ LoseNothing c deeds = LosesNothing (after (new_course c) deeds).world
 abbrev pub HasBroken : Switches → List Deed → Type 0
 HasBroken s deeds = any_on s ≡ true → Contains deeds (done.Set s)
 
--- what was noted, and what a line says of it
-abbrev pub note_of : Note → SaidNote
-note_of (notes.Lost message) = said_notes.Lost message
-note_of (notes.Repeated message) = said_notes.Repeated message
-note_of (notes.Erred mishap) = said_notes.Erred mishap
-
 -- what was done, and what a line says of it, without the replies
 abbrev pub act_of : Deed → SaidDeed
 act_of (done.Asked event reply) = said.Asked event None
 act_of (done.Set switches) = said.Set switches
-act_of (done.Noted note) = said.Noted (note_of note)
+act_of (done.Noted note) = said.Noted note
 
 abbrev pub act_said : SaidDeed → SaidDeed
 act_said (said.Asked event reply) = said.Asked event None

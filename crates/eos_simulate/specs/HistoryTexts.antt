@@ -9,13 +9,13 @@ use Rattle.eos_history_lines.specs.declared.line.Head.{Head}
 use Rattle.eos_history_lines.specs.declared.line.Line.{Line}
 use Rattle.eos_history_lines.specs.declared.line.Tail.{Tail}
 use Rattle.eos_history_lines.specs.Lines.{head_value, line_value, tail_value}
-use Rattle.eos_simulate.specs.Histories.{note_of, FitsTotals}
+use Rattle.eos_simulate.specs.Histories.{FitsTotals}
 
 -- what was done, as a line says it
 abbrev pub deed_said : Deed → SaidDeed
 deed_said (done.Asked event reply) = said.Asked event (Some reply)
 deed_said (done.Set switches) = said.Set switches
-deed_said (done.Noted note) = said.Noted (note_of note)
+deed_said (done.Noted note) = said.Noted note
 
 abbrev pub head_bytes : Head → List ℕ
 head_bytes h = compact_text (head_value h) ++ codes "\n"

@@ -16,8 +16,8 @@ use Rattle.eos_machine.specs.Elections.{electable_at}
 use Rattle.eos_drive.specs.Driven.{after_deed, after}
 use Rattle.eos_drive.specs.declared.deed.Deed.{Deed}
 use Rattle.eos_drive.specs.declared.deed.Deed.TheVariants as done
-use Rattle.eos_drive.specs.declared.deed.Note.{Note}
-use Rattle.eos_drive.specs.declared.deed.Note.TheVariants as notes
+use Rattle.eos_machine.specs.declared.event.Note.{Note}
+use Rattle.eos_machine.specs.declared.event.Note.TheVariants as notes
 use Rattle.eos_simulate.specs.Histories.{new_course}
 use Rattle.eos_simulate.specs.declared.labels.Label.{Label}
 use Rattle.eos_simulate.specs.declared.labels.LostTail.{LostTail}

@@ -6,8 +6,8 @@ use Rattle.eos_machine.specs.declared.event.Event.TheVariants as events
 use Rattle.eos_drive.specs.declared.deed.Deed.{Deed}
 use Rattle.eos_history_lines.specs.declared.line.Deed.{Deed as SaidDeed}
 use Rattle.eos_history_lines.specs.declared.line.Deed.TheVariants as said
-use Rattle.eos_history_lines.specs.declared.line.Note.{Note as SaidNote}
-use Rattle.eos_history_lines.specs.declared.line.Note.TheVariants as notes
+use Rattle.eos_machine.specs.declared.event.Note.{Note}
+use Rattle.eos_machine.specs.declared.event.Note.TheVariants as notes
 use Rattle.eos_history_lines.specs.declared.line.Line.{Line}
 use Rattle.eos_simulate.specs.Histories.{act_of}
 
@@ -46,7 +46,7 @@ unnamed (events.WriteMarker n) = events.WriteMarker 0
 unnamed (events.Complete a) = events.Complete a
 unnamed (events.Elect t p k) = events.Elect t p 0
 
-abbrev pub unnamed_note : SaidNote → SaidNote
+abbrev pub unnamed_note : Note → Note
 unnamed_note (notes.Lost message) = notes.Lost 0
 unnamed_note (notes.Repeated message) = notes.Repeated 0
 unnamed_note (notes.Erred mishap) = notes.Erred mishap

@@ -2,13 +2,15 @@
 
 ghost use Rattle.std.specs.Prelude.{◌≡◌, ◌+◌, ℕ, List, ◌∷◌, ◌++◌, [], length, IfOk, IfErr, OnOk};
 ghost use Rattle.eos_simulate.specs.Every.{tiny, schedules, schedules_below, AreRun, IsExplored, IsJudged, IsRightly};
+ghost use Rattle.eos_simulate.specs.Histories.{IsLeftBy};
 ghost use Rattle.eos_simulate.specs.steps.Walking.{behind};
 
 use crate::course::Course;
-use crate::kept::simulate_script;
-use crate::making::SimulationFault;
+use crate::kept::cluster_of_script;
+use crate::making::{SimulationFault, evidence_of};
 use eos_check::{Fault, Verdict, check_one};
 use eos_drive::{History, Script};
+use eos_evidence::Evidence;
 use eos_history_lines::Head;
 use eos_words::Every;
 use std::alloc::Global;
@@ -181,6 +183,21 @@ fn explore_here<T: Threads + Sync>(
     }
 }
 
+/// What the schedule of these words leaves.
+fn evidence_by(
+    alloc: Global,
+    course: &Course,
+    words: &[u32],
+    history: &mut History,
+) -> Result<Evidence, SimulationFault>
+    ensures { history.old ≡ [] → IfOk result (IsLeftBy course.now.config history.new) }
+{
+    let script = Script::of_words(alloc, words)?;
+    let cluster = cluster_of_script(alloc, course, &script, history)?;
+    let evidence = evidence_of(&cluster, course.stops)?;
+    Ok(evidence)
+}
+
 /// Runs the schedule of these words, and judges what it leaves.
 fn judged<T: Threads + Sync>(
     alloc: Global,
@@ -191,8 +208,7 @@ fn judged<T: Threads + Sync>(
 ) -> Result<Verdict, SimulationFault>
     ensures { history.old ≡ [] → IfOk result (IsJudged course.now.config history.new) }
 {
-    let script = Script::of_words(alloc, words)?;
-    let evidence = simulate_script(alloc, course, &script, history)?;
+    let evidence = evidence_by(alloc, course, words, history)?;
     let verdict = check_one(alloc, rt, &evidence)?;
     Ok(verdict)
 }

@@ -1,12 +1,12 @@
 //! The text of a history's file.
 
 ghost use Rattle.std.specs.Prelude.{◌≡◌, ◌++◌, IfOk, OnOk, string_bytes};
-ghost use Rattle.eos_simulate.specs.Histories.{note_of, FitsTotals};
+ghost use Rattle.eos_simulate.specs.Histories.{FitsTotals};
 ghost use Rattle.eos_simulate.specs.HistoryTexts.{IsHistoryText, deed_said, lines_bytes};
 
 use bytes::Bytes;
 use eos_drive::History;
-use eos_history_lines::{Deed, Head, Line, Note, Tail, head_text, line_text, tail_text};
+use eos_history_lines::{Deed, Head, Line, Tail, head_text, line_text, tail_text};
 use std::alloc::{AllocError, Global};
 
 /// The lines of a history that began with a new cluster: what it was, what was done to it, and the totals.
@@ -61,28 +61,7 @@ fn said(deed: &eos_drive::Deed) -> Result<Deed, AllocError>
             reply: Some(*reply),
         }),
         eos_drive::Deed::Set(switches) => Ok(Deed::Set(*switches)),
-        eos_drive::Deed::Noted(note) => Ok(Deed::Noted(said_note(note)?)),
-    }
-}
-
-fn said_note(note: &eos_drive::Note) -> Result<Note, AllocError>
-    ensures { IfOk result (λ said. said ≡ note_of note.now) }
-{
-    match note {
-        eos_drive::Note::Lost(message) => Ok(Note::Lost(*message)),
-        eos_drive::Note::Repeated(message) => Ok(Note::Repeated(*message)),
-        eos_drive::Note::Erred(mishap) => Ok(Note::Erred(copy(mishap)?)),
-    }
-}
-
-/// What is noted where a line says so.
-pub(crate) fn noted_of(note: &Note) -> Result<eos_drive::Note, AllocError>
-    ensures { IfOk result (λ noted. note_of noted ≡ note.now) }
-{
-    match note {
-        Note::Lost(message) => Ok(eos_drive::Note::Lost(*message)),
-        Note::Repeated(message) => Ok(eos_drive::Note::Repeated(*message)),
-        Note::Erred(mishap) => Ok(eos_drive::Note::Erred(copy(mishap)?)),
+        eos_drive::Deed::Noted(note) => Ok(Deed::Noted(note.clone()?)),
     }
 }
 

@@ -32,31 +32,14 @@ pub fn simulate(
     ensures lossless { history.old ≡ [] → course.now.unclean ≡ 0 → OnOk result (LoseNothing course.now.config history.new) }
 {
     let script = Script::from_seed(alloc, course.seed, course.words)?;
-    simulate_script(alloc, course, &script, history)
-}
-
-/// The same by the words of this script.
-pub(crate) fn simulate_script(
-    alloc: Global,
-    course: &Course,
-    script: &Script,
-    history: &mut History,
-) -> Result<Evidence, SimulationFault>
-    ensures left { history.old ≡ [] → IfOk result (IsLeftBy course.now.config history.new) }
-    ensures broken { OnOk result (HasBroken course.now.switches history.new) }
-    ensures of_schedule { history.old ≡ [] → course.now.stops ≡ false → any_on course.now.switches ≡ false → LoseNothing course.now.config history.new → IfOk result IsOfSchedule }
-    ensures right_logs { history.old ≡ [] → course.now.stops ≡ false → any_on course.now.switches ≡ false → LoseNothing course.now.config history.new → IfOk result HasRightLogs }
-    ensures without_fault { history.old ≡ [] → course.now.stops ≡ false → any_on course.now.switches ≡ false → LoseNothing course.now.config history.new → IfOk result HasNoFaultInLogs }
-    ensures without_loss { history.old ≡ [] → course.now.unclean ≡ 0 → OnOk result (LoseNothing course.now.config history.new) }
-{
-    let cluster = broken(alloc, course, script, history)?;
+    let cluster = cluster_of_script(alloc, course, &script, history)?;
     let evidence = evidence_of(&cluster, course.stops)?;
     Ok(evidence)
 }
 
 /// A cluster that has done what the script says, and then has broken the rules whose switches are on.
 #[tactic(auto, using(crate::proofs::Deeds::kept_on))]
-fn broken(
+pub(crate) fn cluster_of_script(
     alloc: Global,
     course: &Course,
     script: &Script,

@@ -167,19 +167,7 @@ fn push_event(
             };
             push_election(labels, number, cluster, tail, reply)
         }
-        Event::Feed { .. }
-        | Event::Start { .. }
-        | Event::Produce { .. }
-        | Event::Commit { .. }
-        | Event::End { .. }
-        | Event::Resume { .. }
-        | Event::Fetch { .. }
-        | Event::Members { .. }
-        | Event::BrokerRestart { .. }
-        | Event::CoordinatorRestart
-        | Event::TimeOut { .. }
-        | Event::AddPartition { .. }
-        | Event::Complete { .. } => Ok(()),
+        _ => Ok(()),
     }
 }
 
@@ -193,22 +181,11 @@ fn push_election(
 ) -> Result<(), AllocError>
     ensures { OnOk result (AddsLabels labels.old.items labels.new.items (election_labels cluster.now number tail reply)) }
 {
-    match reply {
-        Reply::Done(_) => {
-            let records = cluster.record_count(&tail.topic, tail.partition);
-            push_tail(labels, number, tail, records)
-        }
-        Reply::Fenced
-        | Reply::OutOfOrder
-        | Reply::DuplicateKept
-        | Reply::WrongState
-        | Reply::Busy
-        | Reply::StaleGeneration
-        | Reply::EpochsSpent
-        | Reply::Unknown
-        | Reply::OutOfMemory
-        | Reply::Full => Ok(()),
-    }
+    let Reply::Done(_) = reply else {
+        return Ok(());
+    };
+    let records = cluster.record_count(&tail.topic, tail.partition);
+    push_tail(labels, number, tail, records)
 }
 
 /// The same of a partition whose log has so many records.
@@ -243,22 +220,11 @@ fn push_answer(
 ) -> Result<(), AllocError>
     ensures { OnOk result (AddsLabels labels.old.items labels.new.items (answer_labels cluster.now number message reply)) }
 {
-    match reply {
-        Reply::Done(offset) => {
-            let taken = taken_at(cluster, message, offset);
-            push_broken(labels, number, cluster.broken(message), taken)
-        }
-        Reply::Fenced
-        | Reply::OutOfOrder
-        | Reply::DuplicateKept
-        | Reply::WrongState
-        | Reply::Busy
-        | Reply::StaleGeneration
-        | Reply::EpochsSpent
-        | Reply::Unknown
-        | Reply::OutOfMemory
-        | Reply::Full => Ok(()),
-    }
+    let Reply::Done(offset) = reply else {
+        return Ok(());
+    };
+    let taken = taken_at(cluster, message, offset);
+    push_broken(labels, number, cluster.broken(message), taken)
 }
 
 fn taken_at(cluster: &Cluster, message: u64, offset: u64) -> Taken

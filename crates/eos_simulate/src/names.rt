@@ -2,13 +2,13 @@
 
 ghost use Rattle.std.specs.Prelude.{◌≡◌, IfOk, IfSome};
 ghost use Rattle.eos_machine.specs.declared.event.Event.TheVariants as Event;
-ghost use Rattle.eos_simulate.specs.Histories.{act_of, note_of};
+ghost use Rattle.eos_simulate.specs.Histories.{act_of};
 ghost use Rattle.eos_simulate.specs.Parts.{unplaced, unplaced_offset, unnamed, unnamed_note, unnamed_deed};
 
 use crate::history_file::copy;
 use crate::inputs::Inputs;
 use eos_history_lines::Deed;
-use eos_machine::{Claim, Config, Event};
+use eos_machine::{Claim, Config, Event, Note};
 use std::alloc::{AllocError, Global};
 
 /// The names of what a history has made: by its number there, the number that it has now, or none where it isn't made.
@@ -83,21 +83,19 @@ impl Names {
         }
     }
 
-    fn note(&self, note: &eos_drive::Note) -> Result<Option<eos_history_lines::Note>, AllocError>
-        ensures { IfOk result (λ left. IfSome left (λ n. unnamed_note n ≡ unnamed_note (note_of note.now))) }
+    fn note(&self, note: &Note) -> Result<Option<Note>, AllocError>
+        ensures { IfOk result (λ left. IfSome left (λ n. unnamed_note n ≡ unnamed_note note.now)) }
     {
         match note {
-            eos_drive::Note::Lost(message) => match self.message(*message) {
-                Some(message) => Ok(Some(eos_history_lines::Note::Lost(message))),
+            Note::Lost(message) => match self.message(*message) {
+                Some(message) => Ok(Some(Note::Lost(message))),
                 None => Ok(None),
             },
-            eos_drive::Note::Repeated(message) => match self.message(*message) {
-                Some(message) => Ok(Some(eos_history_lines::Note::Repeated(message))),
+            Note::Repeated(message) => match self.message(*message) {
+                Some(message) => Ok(Some(Note::Repeated(message))),
                 None => Ok(None),
             },
-            eos_drive::Note::Erred(mishap) => {
-                Ok(Some(eos_history_lines::Note::Erred(copy(mishap)?)))
-            }
+            Note::Erred(_) => Ok(Some(note.clone()?)),
         }
     }
 

@@ -8,15 +8,15 @@ ghost use Rattle.eos_drive.specs.Driven.{is_taken, IsKept};
 ghost use Rattle.eos_simulate.specs.declared.replaying.ReplayFault.TheVariants.{OutOfMemory};
 ghost use Rattle.eos_simulate.specs.Histories.{new_course, acts_of, acts_said, IsLeftBy, Agrees, IsAsSaid, FitsTotals};
 ghost use Rattle.eos_simulate.specs.Replays.{IfOtherwise, DiffersFirst};
-ghost use Rattle.eos_simulate.specs.steps.Passing.{HavePassed, DiffersAfter, HasPassed, HasDiffered, IsNoted, IsOther};
+ghost use Rattle.eos_simulate.specs.steps.Passing.{HavePassed, DiffersAfter, HasPassed, HasDiffered, IsOther};
 
-use crate::history_file::{noted_of, totals};
+use crate::history_file::totals;
 use crate::making::{SimulationFault, evidence_of, new_cluster};
 use eos_cluster::Cluster;
 use eos_drive::History;
 use eos_evidence::Evidence;
-use eos_history_lines::{Deed, Line, Note, Schedule, Tail};
-use eos_machine::{Event, Reply};
+use eos_history_lines::{Deed, Line, Schedule, Tail};
+use eos_machine::{Event, Note, Reply};
 use std::alloc::{AllocError, AllocFailed, Global};
 
 /// Why a schedule leaves no evidence.
@@ -164,13 +164,11 @@ fn take_line(cluster: &mut Cluster, history: &mut History, line: &Line) -> Resul
 }
 
 /// Keeps what a line says of what happened beside the cluster.
-#[tactic(auto, using(crate::proofs::Deeds::is_noted))]
 fn keep_note(history: &mut History, note: &Note) -> Result<(), AllocError>
-    ensures ok { OnOk result (IsNoted history.old note.now history.new) }
+    ensures ok { OnOk result (history.new ≡ history.old ++ deeds.Noted note.now ∷ []) }
     ensures err { OnErr result (history.new ≡ history.old) }
 {
-    let own = noted_of(note)?;
-    history.note(own)
+    history.note(note.clone()?)
 }
 
 /// Compares the totals that a schedule says, if it does, with those of what was done.

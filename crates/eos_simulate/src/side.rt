@@ -69,15 +69,7 @@ impl Side {
                 self.count(event, value);
                 Ok(Some(value))
             }
-            Reply::Fenced
-            | Reply::OutOfOrder
-            | Reply::DuplicateKept
-            | Reply::WrongState
-            | Reply::Busy
-            | Reply::StaleGeneration
-            | Reply::EpochsSpent
-            | Reply::Unknown
-            | Reply::Full => {
+            _ => {
                 self.count_markers();
                 Ok(None)
             }

@@ -9,7 +9,7 @@ use Rattle.eos_machine.specs.declared.switches.Switches.{Switches}
 use Rattle.eos_cluster.specs.Courses.{Course}
 use Rattle.eos_drive.specs.declared.deed.Deed.{Deed}
 use Rattle.eos_drive.specs.declared.deed.Deed.TheVariants.{Set, Noted}
-use Rattle.eos_drive.specs.declared.deed.Note.{Note}
+use Rattle.eos_machine.specs.declared.event.Note.{Note}
 use Rattle.eos_drive.specs.Driven.{recorded, Leads}
 
 -- where it began, and what was kept before

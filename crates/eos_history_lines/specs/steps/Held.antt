@@ -1,14 +1,10 @@
--- The members that a JSON object under construction has.
+-- The members of a line's JSON object under construction.
 use Rattle.std.specs.Prelude.{codes}
 use Rattle.serde_json.specs.Data.{Members, put}
-use Rattle.serde_json.specs.View.{members_view}
+use Rattle.eos_manifest.specs.Objects.{count}
 use Rattle.eos_history_lines.specs.declared.line.Head.{Head}
 use Rattle.eos_history_lines.specs.declared.line.Line.{Line}
-use Rattle.eos_history_lines.specs.declared.object.Object.{Object}
-use Rattle.eos_history_lines.specs.Lines.{count, with_sizes, with_asked, with_deed}
-
-abbrev pub held : Object → Members
-held o = members_view o.members.entries
+use Rattle.eos_history_lines.specs.Lines.{with_sizes, with_asked, with_deed}
 
 -- with those of the first line
 abbrev pub with_head : Head → Members → Members

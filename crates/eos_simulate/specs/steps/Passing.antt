@@ -6,12 +6,10 @@ use Rattle.eos_machine.specs.declared.event.Reply.{Reply}
 use Rattle.eos_drive.specs.declared.deed.Deed.{Deed}
 use Rattle.eos_drive.specs.declared.deed.Deed.TheVariants as done
 use Rattle.eos_history_lines.specs.declared.line.Deed.TheVariants as said
-use Rattle.eos_drive.specs.declared.deed.Note.{Note}
-use Rattle.eos_history_lines.specs.declared.line.Note.{Note as SaidNote}
 use Rattle.eos_history_lines.specs.declared.line.Line.{Line}
 use Rattle.eos_simulate.specs.declared.replaying.ReplayFault.{ReplayFault}
 use Rattle.eos_simulate.specs.declared.replaying.ReplayFault.TheVariants.{NotAtRest, Limit, Otherwise, Totals, OutOfMemory}
-use Rattle.eos_simulate.specs.Histories.{note_of, IsAsSaid}
+use Rattle.eos_simulate.specs.Histories.{IsAsSaid}
 
 -- no line is told
 abbrev pub IsOther : ReplayFault → Type 0
@@ -32,12 +30,6 @@ pub record HasPassed (before now : List Deed) (line : Line) : Type 0 where
   pub deed : Deed
   pub kept : now ≡ before ++ deed ∷ []
   pub says : IsAsSaid deed line
-
--- a note was kept that says this
-pub record IsNoted (before : List Deed) (says : SaidNote) (now : List Deed) : Type 0 where
-  pub note : Note
-  pub same : note_of note ≡ says
-  pub kept : now ≡ before ++ done.Noted note ∷ []
 
 -- one was done, and answered otherwise than it says
 pub record HasDiffered (before now : List Deed) (line told : Line) : Type 0 where

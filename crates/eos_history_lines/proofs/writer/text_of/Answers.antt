@@ -4,7 +4,7 @@ use Rattle.serde_json.specs.Read.{read, max_depth}
 use Rattle.serde_json.specs.Written.{has_float, compact_text, IsInOrder}
 use Rattle.eos_history_lines.specs.Names.{NamesOnce}
 use Rattle.eos_history_lines.proofs.OnceNamed.{named_once}
-use Rattle.eos_history_lines.specs.steps.Held.{held}
+use Rattle.eos_manifest.specs.Objects.{held}
 use Rattle.eos_history_lines.proofs.writer.text_of.Goals as goal
 
 pub returns-clause-says : goal.returns-clause-says

@@ -1,11 +1,11 @@
--- A topic is read as a text exactly where it is UTF-8.
+-- Bytes are read as a text exactly where they are UTF-8.
 use Rattle.std.proofs.Common.{◌∙◌, sym, ap}
 use Rattle.std.proofs.lemmas.Bool.{cond-true, cond-false, false_from_ne_true}
 use Rattle.std.proofs.lemmas.Result.{on_ok_weaker}
 use Rattle.std.proofs.lemmas.Str.{IsUtf8-from_is_utf8, is_utf8-from_IsUtf8}
 use Rattle.serde_json.specs.Data.{string, put}
-use Rattle.eos_history_lines.specs.steps.Held.{held}
-use Rattle.eos_history_lines.proofs.object.Object.put_topic.Goals as goal
+use Rattle.eos_manifest.specs.Objects.{held}
+use Rattle.eos_manifest.proofs.object.Object.put_text.Goals as goal
 
 pub returns-in-Ok : goal.returns-in-Ok
 returns-in-Ok c =

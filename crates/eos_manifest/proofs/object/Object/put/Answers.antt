@@ -2,7 +2,7 @@ use Rattle.std.proofs.Common.{◌≡◌, string_bytes, ap, ◌∙◌, rules}
 use Rattle.serde_json.specs.Data.{put}
 use Rattle.serde_json.specs.View.{view, members_view}
 use Rattle.serde_json.proofs.Views.{members_view-insert_entry}
-use Rattle.eos_history_lines.proofs.object.Object.put.Goals as goal
+use Rattle.eos_manifest.proofs.object.Object.put.Goals as goal
 
 pub returns : goal.returns
 returns c =
