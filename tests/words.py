@@ -29,7 +29,7 @@ TABLE = {
         eos_lineage: own_place_if
         eos_picture: TxnPlace push_place
         eos_reading: places
-        eos_report: put_place value_of_place
+        eos_report: place put_place
         eos_sought: names_place
         eos_story: place copy_place place_at place_of push_place is_same_place
         eos_table: Place place_of places
@@ -58,7 +58,7 @@ TABLE = {
         eos_lineage: parts take_part
         eos_notes: count_part count_part_if
         eos_sought: take_part walk_part
-        eos_table: closes_of_part markers_of_part name_of_part take_part
+        eos_table: name_of_part take_part
         """,
 }
 # Rust's own names for taking a value apart; and, below all that has runs and parts, claims of one input in a row, and a record's fields.

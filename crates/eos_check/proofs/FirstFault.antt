@@ -52,7 +52,7 @@ same_name : (f g : PartitionFault) (n : PartitionName) → name_in f ≡ n → n
 same_name f g n p q = ap (λ x. name_cmp x (name_in g)) (p ∙ sym q) ∙ tied_itself name_total (name_in g)
 
 -- the faults of one partition
-abbrev Here : (p : Partition) (l : PartLog) → IsLogOf p l → PartitionFault → Type 0
+abbrev pub Here : (p : Partition) (l : PartLog) → IsLogOf p l → PartitionFault → Type 0
 Here p l of = folds.IsStanding p.end.topic p.end.partition p.end.end of.batches of.stop
 
 -- the least fault of a log stands in the front that is known

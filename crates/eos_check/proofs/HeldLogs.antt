@@ -17,7 +17,7 @@ use Rattle.eos_reading.specs.Wanted.{wanted_log, wanted_of, kept_log, wanted_log
 use Rattle.eos_verdict.specs.declared.verdict.Verdict.{Verdict}
 use Rattle.eos_check.specs.Judged.{IsJudged}
 use Rattle.eos_check.specs.Verdicts.{IsVerdict}
-use Rattle.eos_check.specs.steps.HeldLogs.{AreKept}
+use Rattle.eos_check.specs.KeptLogs.{AreKeptOf}
 use Rattle.eos_check.proofs.KeptAnswers as kept
 use Rattle.eos_check.proofs.NamedFaults.{faults_push}
 
@@ -40,33 +40,33 @@ take_next ps i p lt e =
     ap (λ (n : ℕ). take n ps) step ∙ (take-suc ps i p lt ∙ ap (λ (q : Partition). take i ps ++ q ∷ []) (sym e))
 
 module _ (apps : List App) where
-  kept_push : (ps : List Partition) (parts : List PartLog) (faults : List (Option PartitionFault)) (p : Partition) (t : Told) → AreKept apps ps parts faults
-      → IsTold (wanted_of apps p.end.topic) p.end p.segments t → AreKept apps (ps ++ p ∷ []) (parts ++ t.part ∷ []) (faults ++ t.fault ∷ [])
+  kept_push : (ps : List Partition) (parts : List PartLog) (faults : List (Option PartitionFault)) (p : Partition) (t : Told) → AreKeptOf apps ps parts faults
+      → IsTold (wanted_of apps p.end.topic) p.end p.segments t → AreKeptOf apps (ps ++ p ∷ []) (parts ++ t.part ∷ []) (faults ++ t.fault ∷ [])
   kept_push ps parts faults p t h k =
       let one = k.part in
       let same : t.part ≡ kept_log apps one.log = one.wanted ∙ ap (λ (name : List ℕ). wanted_log (wanted_of apps name) one.log) (sym one.of.log.of_topic) in
       record {
         whole = h.whole ++ one.log ∷ [];
         of = logs_push ps h.whole p one.log h.of one.of;
-        wanted = ap (λ (ls : List PartLog). ls ++ t.part ∷ []) h.wanted
+        parts = ap (λ (ls : List PartLog). ls ++ t.part ∷ []) h.parts
             ∙ (ap (λ (l : PartLog). wanted_logs apps h.whole ++ l ∷ []) same ∙ sym (map-append (kept_log apps) h.whole (one.log ∷ [])));
-        least = faults_push ps faults p t.fault h.least one.least;
+        faults = faults_push ps faults p t.fault h.faults one.least;
       }
 
-  pub kept_none : AreKept apps [] [] []
-  kept_none = record { whole = []; of = tt; wanted = refl; least = tt }
+  pub kept_none : AreKeptOf apps [] [] []
+  kept_none = record { whole = []; of = tt; parts = refl; faults = tt }
 
   pub kept_next : (ps : List Partition) (i : ℕ) (parts : List PartLog) (faults : List (Option PartitionFault)) (p : Partition) (t : Told) (w : Wanted) → i < length ps → p ≡ get_or ps i p
-      → AreKept apps (take i ps) parts faults → w ≡ wanted_of apps p.end.topic → IsTold w p.end p.segments t → AreKept apps (take (i + 1) ps) (parts ++ t.part ∷ []) (faults ++ t.fault ∷ [])
+      → AreKeptOf apps (take i ps) parts faults → w ≡ wanted_of apps p.end.topic → IsTold w p.end p.segments t → AreKeptOf apps (take (i + 1) ps) (parts ++ t.part ∷ []) (faults ++ t.fault ∷ [])
   kept_next ps i parts faults p t w lt e h is k =
       let told : IsTold (wanted_of apps p.end.topic) p.end p.segments t = subst (λ (x : Wanted). IsTold x p.end p.segments t) is k in
-      subst (λ (qs : List Partition). AreKept apps qs (parts ++ t.part ∷ []) (faults ++ t.fault ∷ [])) (sym (take_next ps i p lt e)) (kept_push (take i ps) parts faults p t h told)
+      subst (λ (qs : List Partition). AreKeptOf apps qs (parts ++ t.part ∷ []) (faults ++ t.fault ∷ [])) (sym (take_next ps i p lt e)) (kept_push (take i ps) parts faults p t h told)
 
 -- ---- the verdict
 
-pub judged : (e : EvidenceParts) (parts : List PartLog) (faults : List (Option PartitionFault)) → AreKept e.spec.apps e.partitions parts faults → IsEvidence e
+pub judged : (e : EvidenceParts) (parts : List PartLog) (faults : List (Option PartitionFault)) → AreKeptOf e.spec.apps e.partitions parts faults → IsEvidence e
     → (v : Verdict) → IsJudged e.spec.apps parts (first_of faults) v → IsVerdict e v
 judged e parts faults h is v answer =
     let over : IsJudged e.spec.apps (wanted_logs e.spec.apps h.whole) (first_of faults) v =
-    subst (λ (ls : List PartLog). IsJudged e.spec.apps ls (first_of faults) v) h.wanted answer in
-    (h.whole, h.of, kept.judged e h.whole h.of faults v is h.least over)
+    subst (λ (ls : List PartLog). IsJudged e.spec.apps ls (first_of faults) v) h.parts answer in
+    (h.whole, h.of, kept.judged e h.whole h.of faults v is h.faults over)

@@ -149,7 +149,7 @@ tied_equal (p ∷ ps) (l ∷ ls) of o f g (inr h) (inl k) e =
     absurd (not_less (name_cmp (end_name p.end) (name_in f)) below same)
 tied_equal (p ∷ ps) (l ∷ ls) of o f g (inr h) (inr k) e = tied_equal ps ls of.1 (sorted_tail end_cmp p.end (ends_of ps) o) f g h k e
 
-partition_total : IsTotalOrder partition_cmp
+pub partition_total : IsTotalOrder partition_cmp
 partition_total = then_total (on_total name_in name_total) (then_total (on_total (λ f. f.offset) nat_cmp_total)
     (then_total (on_total (λ f. number_of f.kind) nat_cmp_total) (on_total (λ f. folds.producer_of f.kind) int_cmp_total)))
 

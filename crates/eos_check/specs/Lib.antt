@@ -5,3 +5,4 @@ pub mod Verdicts
 pub mod Judged
 pub mod steps
 pub mod KeptVerdicts
+pub mod KeptLogs

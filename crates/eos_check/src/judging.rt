@@ -88,70 +88,36 @@ fn longer_of(counts: (u64, u64), workers: Workers) -> Longer {
     }
 }
 
-/// What the transaction log and the lineage answer, at the same time: the first by the caller's thread, the second by so many others,
-/// of which one does this work behind it.
-fn beside_long_log<R: Threads + Sync, T: Send + Drop, W: FnOnce() -> T + Send>(
-    alloc: Global,
-    rt: &R,
-    sound: Sound<'_>,
-    others: Workers,
-    work: W,
-) -> (Result<LogAnswer, AllocError>, Lined, T)
-    requires { W.pre work }
-    ensures log { IfOk result.0 (IsLogAnswer sound.entry.parts.now) }
-    ensures lineage { AreInOrder sound.entry.parts.now → IfOk result.1 (IsAnswer sound.entry.spec.now.apps sound.entry.parts.now) }
-    ensures work { W.post work result.2 }
+/// What another thread answers, which then does this work, and what the caller's thread answers meanwhile.
+fn beside<
+    R: Threads + Sync,
+    A: Send + Drop,
+    B: Drop,
+    T: Send + Drop,
+    F: FnOnce() -> A + Send,
+    W: FnOnce() -> T + Send,
+    G: FnOnce() -> B,
+>(rt: &R, other: F, work: W, own: G) -> ((A, T), B)
+    requires other { F.pre other }
+    requires work { W.pre work }
+    requires own { G.pre own }
+    ensures other { F.post other result.0.0 }
+    ensures work { W.post work result.0.1 }
+    ensures own { G.post own result.1 }
 {
-    let Sound { spec, parts } = sound;
-    let ((lineage, worked), log) = join(
+    join(
         rt,
-        move || -> (Lined, T)
-            requires sync { IsSync R.row }
+        move || -> (A, T)
+            requires other { F.pre other }
             requires work { W.pre work }
-            ensures lineage { AreInOrder parts.entry.now → IfOk result.0 (IsAnswer spec.entry.now.apps parts.entry.now) }
+            ensures other { F.post other result.0 }
             ensures work { W.post work result.1 }
         {
-            let lineage = check_lineage_by(alloc, rt, others, spec, parts);
-            (lineage, work())
+            let answer = other();
+            (answer, work())
         },
-        || -> Result<LogAnswer, AllocError>
-            ensures { IfOk result (IsLogAnswer parts.entry.now) }
-        { log_answer(alloc, parts) },
-    );
-    (log, lineage, worked)
-}
-
-/// The same, the lineage by as many of which the caller's thread is one, and this work by the other behind the reading of the
-/// transaction log.
-fn beside_long_lineage<R: Threads + Sync, T: Send + Drop, W: FnOnce() -> T + Send>(
-    alloc: Global,
-    rt: &R,
-    sound: Sound<'_>,
-    others: Workers,
-    work: W,
-) -> (Result<LogAnswer, AllocError>, Lined, T)
-    requires { W.pre work }
-    ensures log { IfOk result.0 (IsLogAnswer sound.entry.parts.now) }
-    ensures lineage { AreInOrder sound.entry.parts.now → IfOk result.1 (IsAnswer sound.entry.spec.now.apps sound.entry.parts.now) }
-    ensures work { W.post work result.2 }
-{
-    let Sound { spec, parts } = sound;
-    let ((log, worked), lineage) = join(
-        rt,
-        move || -> (Result<LogAnswer, AllocError>, T)
-            requires { W.pre work }
-            ensures log { IfOk result.0 (IsLogAnswer parts.entry.now) }
-            ensures work { W.post work result.1 }
-        {
-            let log = log_answer(alloc, parts);
-            (log, work())
-        },
-        || -> Lined
-            requires sync { IsSync R.row }
-            ensures { AreInOrder parts.entry.now → IfOk result (IsAnswer spec.entry.now.apps parts.entry.now) }
-        { check_lineage_by(alloc, rt, others, spec, parts) },
-    );
-    (log, lineage, worked)
+        own,
+    )
 }
 
 /// The verdict of logs in which no partition, no transaction log and none of so many transactions has a fault, by what the lineage
@@ -245,11 +211,25 @@ fn judge_sound<R: Threads + Sync, T: Send + Drop, W: FnOnce() -> T + Send>(
         let verdict = judge_in_turn(alloc, rt, sound, workers);
         return (verdict, work());
     };
-    let (log, lineage, worked) = match longer_of(counts, workers) {
-        Longer::TransactionLog => beside_long_log(alloc, rt, sound, others, work),
-        Longer::Lineage => beside_long_lineage(alloc, rt, sound, others, work),
+    let Sound { spec, parts } = sound;
+    let log = || -> Result<LogAnswer, AllocError>
+        ensures { IfOk result (IsLogAnswer parts.entry.now) }
+    { log_answer(alloc, parts) };
+    let lineage = || -> Lined
+        requires sync { IsSync R.row }
+        ensures { AreInOrder parts.entry.now → IfOk result (IsAnswer spec.entry.now.apps parts.entry.now) }
+    { check_lineage_by(alloc, rt, others, spec, parts) };
+    let (answers, worked) = match longer_of(counts, workers) {
+        Longer::TransactionLog => {
+            let ((lineage, worked), log) = beside(rt, lineage, work, log);
+            ((log, lineage), worked)
+        }
+        Longer::Lineage => {
+            let ((log, worked), lineage) = beside(rt, log, work, lineage);
+            ((log, lineage), worked)
+        }
     };
-    let verdict = judge_both(alloc, rt, sound, workers, (log, lineage));
+    let verdict = judge_both(alloc, rt, sound, workers, answers);
     (verdict, worked)
 }
 

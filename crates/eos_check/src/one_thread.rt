@@ -2,7 +2,7 @@
 
 ghost use Rattle.std.specs.Prelude.{◌≡◌, IfOk};
 ghost use Rattle.eos_check.specs.Verdicts.{IsVerdict};
-ghost use Rattle.eos_check.specs.steps.HeldLogs.{AreKept};
+ghost use Rattle.eos_check.specs.KeptLogs.{AreKeptOf};
 
 use crate::judging::judge;
 use eos_base::Workers;
@@ -16,7 +16,7 @@ use std::thread::Threads;
 
 /// What the evidence's applications want of the logs of its partitions, in order, each with its least fault beside it.
 fn kept_logs(alloc: Global, evidence: &Evidence) -> Result<Logs, AllocError>
-    ensures { IfOk result (λ logs. AreKept evidence.now.spec.apps evidence.now.partitions logs.parts.items logs.faults.items) }
+    ensures { IfOk result (λ logs. AreKeptOf evidence.now.spec.apps evidence.now.partitions logs.parts.items logs.faults.items) }
 {
     let apps = evidence.spec().apps().as_slice();
     let wants = Wants::of(alloc, apps)?;

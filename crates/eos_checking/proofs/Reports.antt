@@ -16,7 +16,7 @@ use Rattle.eos_notes.specs.TalliesByLogs.{tallies_by}
 use Rattle.eos_reading.specs.Wanted.{wanted_logs}
 use Rattle.eos_source_check.proofs.KeptNotes.{whole_all}
 use Rattle.eos_source_check.proofs.KeptTallies.{whole_tables}
-use Rattle.eos_source_check.specs.Judged.{AreKeptOf}
+use Rattle.eos_check.specs.KeptLogs.{AreKeptOf}
 use Rattle.eos_source_check.specs.declared.judged.Judged.{Judged}
 use Rattle.eos_checking.specs.Checking.{AreTold, IsReport, IsReportAsked}
 use Rattle.eos_checking.specs.declared.check.Made.{Made}
@@ -24,7 +24,7 @@ use Rattle.eos_checking.specs.declared.check.Wanted.{Wanted}
 use Rattle.eos_checking.specs.declared.report.Told.{Told}
 use Rattle.eos_checking.specs.steps.Tellings.{IsReportBy, ReportsOf}
 
-by_kept : (e : EvidenceParts) (logs : Logs) (told : Told) (all : Bool) (about : Wanted) (text : Made) → AreKeptOf e logs → told.spec.now ≡ e.spec → told.logs.now ≡ logs
+by_kept : (e : EvidenceParts) (logs : Logs) (told : Told) (all : Bool) (about : Wanted) (text : Made) → AreKeptOf e.spec.apps e.partitions logs.parts.items logs.faults.items → told.spec.now ≡ e.spec → told.logs.now ≡ logs
     → AreCounted e.partitions told.counted.now → HaveEpochs e.partitions told.epochs.now → IsVerdict e told.verdict.now → AreTold e all told.verdict.now told.faults.now → IsReportBy told about text → IsReport e all about text
 by_kept e logs told all about text k spec same counted epochs verdict faults r =
     let named = told.logs.now.faults.items in
@@ -52,7 +52,7 @@ by_kept e logs told all about text k spec same counted epochs verdict faults r =
       says = r.says;
     }
 
-pub kept_report : (e : EvidenceParts) (spec : SpecFields) (j : Judged) (all : Bool) (faults : List Fault) (about : Option Wanted) (text : Option Made) → e.spec ≡ spec → AreKeptOf e j.logs
+pub kept_report : (e : EvidenceParts) (spec : SpecFields) (j : Judged) (all : Bool) (faults : List Fault) (about : Option Wanted) (text : Option Made) → e.spec ≡ spec → AreKeptOf e.spec.apps e.partitions j.logs.parts.items j.logs.faults.items
     → AreCounted e.partitions j.counted.items → HaveEpochs e.partitions j.epochs.items → IsVerdict e j.verdict → AreTold e all j.verdict faults → ReportsOf spec j faults about text → IsReportAsked e all about text
 kept_report e spec j all faults None text same k counted epochs verdict are r = r
 kept_report e spec j all faults (Some about) None same k counted epochs verdict are r = absurd r

@@ -11,7 +11,7 @@ use Rattle.eos_disk.specs.declared.folder.FolderFault.TheVariants.{OutOfMemory}
 use Rattle.eos_disk.specs.declared.names.Form.{Form}
 use Rattle.eos_evidence.specs.declared.partition.Partition.{Partition}
 use Rattle.eos_evidence.specs.Evidence.{EvidenceParts, segments_of}
-use Rattle.eos_source.specs.FirstRefusals.{IsShapeSoFar, outcomes_of, pieces_of}
+use Rattle.eos_source.specs.FirstRefusals.{outcomes_of, pieces_of}
 use Rattle.eos_source.specs.Refusals.{AreOpened, IsRefusal}
 use Rattle.eos_source.specs.Said.{Known}
 use Rattle.eos_source.proofs.FirstRefusals as first
@@ -56,11 +56,6 @@ undrawn_of outcomes pieces later why fault (inr again) is = again_of outcomes pi
 pub of_manifest : (holds : List ℕ → Entry) (folder : List ℕ) (later : Bool) (why : FolderFault) → RefusesManifest holds (manifest_path folder) why → IsFirstOfDrawing holds folder later why
 of_manifest holds folder later why h = inl (first.of_manifest holds folder later why h)
 
-so_far : (holds : List ℕ → Entry) (folder : List ℕ) (shape : EvidenceParts) (forms : List Form) (listed : Result ⊤ FolderFault) → (listed ≡ Ok tt → IsShapeAt holds folder shape forms)
-    → ((why : FolderFault) → listed ≡ Err why → IsShapeTo holds folder shape forms why) → IsShapeSoFar holds folder shape forms
-so_far holds folder shape forms (Ok u) all front = inl (all refl)
-so_far holds folder shape forms (Err why) all front = inr (why, front why refl)
-
 pub of_piece : (holds : List ℕ → Entry) (folder : List ℕ) (later : Bool) (shape : EvidenceParts) (forms : List Form) (listed : Result ⊤ FolderFault) (why : FolderFault)
     → (listed ≡ Ok tt → IsShapeAt holds folder shape forms) → ((w : FolderFault) → listed ≡ Err w → IsShapeTo holds folder shape forms w)
     → IsUndrawnOf (outcomes_of holds folder shape forms) (pieces_of shape) later why → IsFirstOfDrawing holds folder later why
@@ -68,7 +63,7 @@ of_piece holds folder later shape forms listed why whole front (inl h) = inl (fi
 of_piece holds folder later shape forms listed why whole front (inr again) = inr (record {
   shape = shape;
   forms = forms;
-  is = so_far holds folder shape forms listed whole front;
+  is = first.so_far holds folder shape forms listed whole front;
   opened = again.0;
   piece = again.1;
   there = again.2;

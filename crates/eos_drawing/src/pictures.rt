@@ -21,18 +21,12 @@ use crate::answer::{Wanted, drawn_of};
 use eos_base::Workers;
 use eos_disk::{Disk, FolderFault, Shape, Watch, read_shape};
 use eos_source::{FolderSource, Source};
-use eos_source_check::{Judged, Pieces, Unlisted, all_source_faults, judge_source, refusal_of};
+use eos_source_check::{
+    Folder, Judged, Pieces, Unlisted, all_source_faults, judge_source, refusal_of,
+};
 use eos_verdict::{Fault, Verdict};
 use std::alloc::Global;
 use std::thread::Threads;
-
-/// A folder of a disk, and who is told how far its reading is.
-#[derive(Clone, Copy)]
-pub struct Folder<'a, D, T> {
-    pub disk: &'a D,
-    pub path: &'a str,
-    pub watch: &'a T,
-}
 
 /// How many pictures there are, and by how many threads the folder is read for them.
 #[derive(Clone, Copy)]

@@ -19,21 +19,13 @@ use eos_ending::{
     Ending, Meter, Progress, STANDARD, Subject, end, end_fewer, end_unread, say_notes,
 };
 use eos_source::FolderSource;
-use eos_source_check::{Pieces, refusal_of};
+use eos_source_check::{Folder, Pieces, refusal_of};
 use eos_text::{WriteFault, finish};
 use eos_words::Explain;
 use std::alloc::Global;
 use std::io;
 use std::io::Write;
 use std::thread::Threads;
-
-/// A folder of a disk, and who is told how far its reading is.
-#[derive(Clone, Copy)]
-pub struct Folder<'a, D, T> {
-    pub disk: &'a D,
-    pub path: &'a str,
-    pub watch: &'a T,
-}
 
 /// Which fault of a folder is explained.
 #[derive(Clone, Copy)]

@@ -18,7 +18,6 @@ ghost use Rattle.eos_explaining.specs.steps.Found.{AreFoundBy, HoldsByNamed};
 ghost use Rattle.eos_explaining.specs.steps.Untold.{IsAfter};
 
 use crate::answer::{Findings, found_in};
-use crate::folder::Folder;
 use crate::kinds::Pick;
 use crate::seen::{parts_of, seen_logs};
 use crate::story::{About, story_of};
@@ -27,7 +26,7 @@ use eos_check::Verdict;
 use eos_disk::{Disk, FolderFault, Shape, Watch, read_shape};
 use eos_evidence::Partition;
 use eos_source::{FolderSource, Source};
-use eos_source_check::{Judged, Pieces, Unlisted, judge_source, refusal_of};
+use eos_source_check::{Folder, Judged, Pieces, Unlisted, judge_source, refusal_of};
 use std::alloc::Global;
 use std::thread::Threads;
 

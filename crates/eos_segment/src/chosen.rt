@@ -56,23 +56,7 @@ struct Placed<'a> {
     item: &'a Record,
 }
 
-/// Adds the lines of a record that was asked for.
-fn push_asked(
-    alloc: Global,
-    out: &mut String,
-    options: &ListingOptions,
-    batch: &Batch,
-    placed: Placed<'_>,
-) -> Result<(), AllocError>
-    ensures { OnOk result (Adds (string_bytes out.old) (string_bytes out.new)
-        (record_line placed.entry.offset placed.entry.item.now ++ (its_headers options.now batch.now placed.entry.item.now ++ its_content options.now.decode batch.now placed.entry.item.now))) }
-{
-    push_record(alloc, out, placed.offset, placed.item)?;
-    push_its_headers(alloc, out, options, batch, placed.item)?;
-    push_content(alloc, out, options.decode, batch, placed.item)?;
-    Ok(())
-}
-
+/// Adds the lines of a record, where it was asked for.
 #[tactic(auto, unfolding(crate::specs::Choosing::chosen_record))]
 fn push_chosen(
     alloc: Global,
@@ -85,7 +69,9 @@ fn push_chosen(
     ensures { OnOk result (Adds (string_bytes out.old) (string_bytes out.new) (chosen_record options.now batch.now placed.entry.offset placed.entry.item.now)) }
 {
     if options.ask_for(placed.offset) {
-        push_asked(alloc, out, options, batch, placed)?;
+        push_record(alloc, out, placed.offset, placed.item)?;
+        push_its_headers(alloc, out, options, batch, placed.item)?;
+        push_content(alloc, out, options.decode, batch, placed.item)?;
     }
     Ok(())
 }
@@ -112,41 +98,15 @@ fn push_records(
     Ok(())
 }
 
-/// Whether one of so many offsets, from the first one on, was asked for.
-fn asks_between(options: &ListingOptions, base: &i64, count: usize) -> bool
-    requires low { pos 0 ≤ℤ base.now }
-    requires high { (base.now +ℤ pos count) ≤ℤ pos (2 ^ 63) }
-    ensures { (n : ℕ) → base.now ≡ pos n → result ≡ nat_lt (max options.now.from n) (min options.now.to (n + count)) }
-{
-    let first = *base as u64;
-    let end = first + count as u64;
-    options.from.max(first) < options.to.min(end)
-}
-
 /// Whether a record of this batch was asked for.
 fn asks_for_one(options: &ListingOptions, batch: &Batch) -> bool
     requires low { pos 0 ≤ℤ batch.now.base_offset }
     requires high { (batch.now.base_offset +ℤ pos (length batch.now.records)) ≤ℤ pos (2 ^ 63) }
     ensures { result ≡ one_is_asked options.now batch.now.base_offset batch.now.records }
 {
-    asks_between(options, &batch.base_offset, batch.records.len())
-}
-
-fn push_whole(
-    alloc: Global,
-    out: &mut String,
-    options: &ListingOptions,
-    byte: usize,
-    batch: &Batch,
-) -> Result<(), AllocError>
-    requires low { pos 0 ≤ℤ batch.now.base_offset }
-    requires high { (batch.now.base_offset +ℤ pos (length batch.now.records)) ≤ℤ pos (2 ^ 63) }
-    ensures { OnOk result (Adds (string_bytes out.old) (string_bytes out.new)
-        (batch_line byte (kind_word_of batch.now) batch.now ++ chosen_records options.now batch.now batch.now.base_offset batch.now.records)) }
-{
-    push_head(out, byte, kind_word(batch), batch)?;
-    push_records(alloc, out, options, batch)?;
-    Ok(())
+    let first = batch.base_offset as u64;
+    let end = first + batch.records.len() as u64;
+    options.from.max(first) < options.to.min(end)
 }
 
 /// Adds the lines of the batch that begins at this byte, where one of its records was asked for.
@@ -162,7 +122,8 @@ pub(crate) fn push_batch(
     ensures { OnOk result (Adds (string_bytes out.old) (string_bytes out.new) (chosen_lines options.now byte batch.now)) }
 {
     if asks_for_one(options, batch) {
-        push_whole(alloc, out, options, byte, batch)?;
+        push_head(out, byte, kind_word(batch), batch)?;
+        push_records(alloc, out, options, batch)?;
     }
     Ok(())
 }

@@ -21,7 +21,7 @@ use std::io::Write;
 ///
 /// # Errors
 /// `Read` where it isn't opened, too. Nothing is written before all was read, and after `Write` and `OutOfMemory` a front was.
-#[tactic(auto, using(crate::proofs::Files::known_file))]
+#[tactic(auto, using(crate::proofs::Files::over_file, crate::proofs::Files::not_opened, crate::proofs::Files::known_file))]
 pub fn dump_file<D: Disk, W: Write>(
     alloc: Global,
     disk: &D,
@@ -37,20 +37,6 @@ pub fn dump_file<D: Disk, W: Write>(
     // With no option it is the listing of every record.
     ensures plain { options.now ≡ plain_options → IsToldOf IsListing (D.holds disk.now path.now) (W.contents writer.old) (W.contents writer.new) result }
 {
-    open_and_dump(alloc, disk, path, options, writer)
-}
-
-#[tactic(auto, using(crate::proofs::Files::over_file, crate::proofs::Files::not_opened))]
-fn open_and_dump<D: Disk, W: Write>(
-    alloc: Global,
-    disk: &D,
-    path: &str,
-    options: &ListingOptions,
-    writer: &mut W,
-) -> Result<u8, RunFault>
-    ensures some { IsToldOf (IsChosenListing options.now) (D.holds disk.now path.now) (W.contents writer.old) (W.contents writer.new) result }
-    ensures plain { options.now ≡ plain_options → IsToldOf IsListing (D.holds disk.now path.now) (W.contents writer.old) (W.contents writer.new) result }
-{
     match disk.open(alloc, path) {
         Ok(mut file) => dump_to(alloc, options, &mut file, writer),
         Err(fault) => Err(unopened(fault)),
@@ -61,7 +47,7 @@ fn open_and_dump<D: Disk, W: Write>(
 ///
 /// # Errors
 /// `Read` where it isn't opened, too. After `Read`, `Limit` and `OutOfMemory` nothing was written, after `Write` a front of the answer.
-#[tactic(auto, using(crate::proofs::Files::known_file))]
+#[tactic(auto, using(crate::proofs::Files::over_file, crate::proofs::Files::not_opened, crate::proofs::Files::known_file))]
 pub fn chain_file<D: Disk, W: Write>(
     alloc: Global,
     disk: &D,
@@ -69,19 +55,6 @@ pub fn chain_file<D: Disk, W: Write>(
     writer: &mut W,
 ) -> Result<u8, RunFault>
     ensures known { (bytes : List ℕ) → D.holds disk.now path.now ≡ File bytes → IsToldOfBytes IsChainAnswer bytes (W.contents writer.old) (W.contents writer.new) result }
-    ensures some { IsToldOf IsChainAnswer (D.holds disk.now path.now) (W.contents writer.old) (W.contents writer.new) result }
-    ensures memory { result ≡ Err RunFault.OutOfMemory → Keeps (W.contents writer.old) (W.contents writer.new) }
-{
-    open_and_chain(alloc, disk, path, writer)
-}
-
-#[tactic(auto, using(crate::proofs::Files::over_file, crate::proofs::Files::not_opened))]
-fn open_and_chain<D: Disk, W: Write>(
-    alloc: Global,
-    disk: &D,
-    path: &str,
-    writer: &mut W,
-) -> Result<u8, RunFault>
     ensures some { IsToldOf IsChainAnswer (D.holds disk.now path.now) (W.contents writer.old) (W.contents writer.new) result }
     ensures memory { result ≡ Err RunFault.OutOfMemory → Keeps (W.contents writer.old) (W.contents writer.new) }
 {

@@ -34,7 +34,7 @@ memory_of outcomes pieces all = inl (inr refl)
 
 -- ---- of a folder
 
-so_far : (holds : List ℕ → Entry) (folder : List ℕ) (shape : EvidenceParts) (forms : List Form) (listed : Result ⊤ FolderFault) → (listed ≡ Ok tt → IsShapeAt holds folder shape forms)
+pub so_far : (holds : List ℕ → Entry) (folder : List ℕ) (shape : EvidenceParts) (forms : List Form) (listed : Result ⊤ FolderFault) → (listed ≡ Ok tt → IsShapeAt holds folder shape forms)
     → ((why : FolderFault) → listed ≡ Err why → IsShapeTo holds folder shape forms why) → IsShapeSoFar holds folder shape forms
 so_far holds folder shape forms (Ok u) all front = inl (all refl)
 so_far holds folder shape forms (Err why) all front = inr (why, front why refl)

@@ -16,3 +16,6 @@ pub mod StandsWhole
 pub mod Refused
 pub mod FirstRefusals
 pub mod RefusalsNamed
+pub mod Gathering
+pub mod SeatSums
+pub mod TicketSteps

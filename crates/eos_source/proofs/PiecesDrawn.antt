@@ -8,7 +8,7 @@ use Rattle.std.specs.List.{count_by}
 use Rattle.eos_source.specs.declared.seats.Stint.{Stint}
 use Rattle.eos_source.specs.steps.Order.{ordered}
 use Rattle.eos_source.specs.steps.Seats.{numbers_in, all_numbers, LeavesNone}
-use Rattle.eos_board.specs.SeatViews.{Counter, SeatView, AreBelow, drawn_of_all}
+use Rattle.eos_source.specs.SeatViews.{Counter, SeatView, AreBelow, drawn_of_all}
 
 -- ---- lists that grow by one
 

@@ -6,7 +6,7 @@ use Rattle.std.proofs.lemmas.List.Sums.{sum_by-cons, sum_by-append}
 use Rattle.std.proofs.lemmas.List.Sorted.{sum_by-IsPermutation}
 use Rattle.std.specs.Prelude.{All, IsPermutation}
 use Rattle.std.specs.List.{count_by, sum_by}
-use Rattle.eos_board.specs.SeatViews.{AreBelow, once_below}
+use Rattle.eos_source.specs.SeatViews.{AreBelow, once_below}
 use Rattle.eos_source.specs.declared.order.Turn.{Turn}
 use Rattle.eos_source.specs.steps.Order.{pieces_of, HaveTurns, IsOrder, ordered}
 use Rattle.eos_source.proofs.PiecesDrawn.{none_in}

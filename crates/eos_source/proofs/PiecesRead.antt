@@ -1,5 +1,5 @@
 -- What is asked of a piece that was opened: of a log that was read to its end, or of a fold.
-use Rattle.std.proofs.Common.{◌≡◌, ℕ, true, not, ◌≤◌, List, [], ◌∷◌, length, Option, Some, None, refl, sym, ap, subst, ◌∙◌}
+use Rattle.std.proofs.Common.{◌≡◌, ℕ, true, not, ◌≤◌, List, [], ◌∷◌, ◌++◌, length, Option, Some, None, refl, sym, ap, subst, ◌∙◌, append-nil}
 use Rattle.std.specs.Prelude.{IfSome}
 use Rattle.std.specs.Io.KnownBytes.{Consumes, IsAtEnd}
 use Rattle.eos_evidence.specs.declared.segment.Segment.{Segment}
@@ -11,11 +11,16 @@ use Rattle.eos_kept.specs.declared.kept_run.KeptRun.{KeptRun}
 use Rattle.eos_kept.specs.KeptRuns.{IsKeptRun, wanted_by, HasClaims}
 use Rattle.eos_kept.specs.steps.Held.{Asking, IsAsked}
 use Rattle.eos_source.specs.declared.source.Piece.TheVariants as pieces
-use Rattle.eos_kept.proofs.PartsHeld.{all_of, checked_so}
+use Rattle.eos_kept.proofs.PartsHeld.{checked_so}
 use Rattle.eos_source.specs.Said.{Said, Log, Fold, Known, WillSay}
 use Rattle.eos_source.specs.steps.Runs.{IsTaken}
 
 -- ---- a log
+
+-- all of these bytes were read
+all_of : (whole : List ℕ) (left : Option (List ℕ)) (bytes : List ℕ) → Consumes (Some whole) left bytes → IsAtEnd left → bytes ≡ whole
+all_of whole None bytes c e = absurd c
+all_of whole (Some ys) bytes c e = sym (c ∙ (ap (λ (l : List ℕ). bytes ++ l) e ∙ append-nil bytes))
 
 module _ {R : Type 0} (left : R → Option (List ℕ)) where
   -- what was known is what was read

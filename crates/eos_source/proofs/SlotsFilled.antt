@@ -5,7 +5,7 @@ use Rattle.std.proofs.lemmas.List.Sums.{sum_by-cons}
 use Rattle.std.specs.Prelude.{All, IsSome}
 use Rattle.std.specs.List.{count_by}
 use Rattle.eos_source.specs.steps.Slots.{IsFilled, AreFilledAsWell}
-use Rattle.eos_board.specs.SeatViews.{AreBelow}
+use Rattle.eos_source.specs.SeatViews.{AreBelow}
 
 module _ {A : Type 0} where
   pub stay : (slots : List (Option A)) (i : ℕ) (a : A) → AreFilledAsWell slots (set slots i (Some a))

@@ -8,3 +8,5 @@ pub mod FolderRefusals
 pub mod FirstRefusals
 pub mod Named
 pub mod Saying
+pub mod TicketRule
+pub mod SeatViews

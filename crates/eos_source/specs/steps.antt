@@ -5,3 +5,4 @@ pub mod Runs
 pub mod Seats
 pub mod Slots
 pub mod Folds
+pub mod OpenSeats

@@ -5,14 +5,14 @@ ghost use Rattle.eos_evidence.specs.Evidence.{segments_of};
 ghost use Rattle.eos_source.specs.Logs.{AreColumns, AreKeptLogs, tally_of};
 ghost use Rattle.eos_source.specs.Refusals.{AreOpened, IsRefusal};
 ghost use Rattle.eos_source.specs.Said.{known_by};
-ghost use Rattle.eos_board.specs.SeatViews.{AreBelow};
+ghost use Rattle.eos_source.specs.SeatViews.{AreBelow};
 
 use crate::plan::Plan;
 use crate::share::{Share, threads_for, told_by};
 use crate::slots::read_all;
 use crate::source::Source;
+use crate::tickets::Drawn;
 use eos_base::{Listed, Workers};
-use eos_board::Drawn;
 use eos_commits::source_topics;
 use eos_evidence::Evidence;
 use eos_kept::{Part, Sizes, Told};

@@ -8,13 +8,13 @@ ghost use Rattle.eos_source.specs.Said.{known_by};
 ghost use Rattle.eos_source.specs.steps.Order.{IsOrder};
 ghost use Rattle.eos_source.specs.steps.Seats.{IsReading, IsDesk, IsStint, numbers_in, all_numbers};
 ghost use Rattle.eos_source.specs.steps.Slots.{AreSlotsSoFar, AreFilledAsWell, IsFilled};
-ghost use Rattle.eos_board.specs.SeatViews.{IsFresh, AreBelow};
+ghost use Rattle.eos_source.specs.SeatViews.{IsFresh, AreBelow};
 
 use crate::order::order_of;
 use crate::plan::Plan;
 use crate::source::Source;
+use crate::tickets::{Drawn, Seat, Tickets};
 use eos_base::Workers;
-use eos_board::{Drawn, Seat, Tickets};
 use eos_kept::KeptRun;
 use std::alloc::{AllocError, Global};
 use std::thread;

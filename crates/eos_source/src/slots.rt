@@ -5,13 +5,13 @@ ghost use Rattle.eos_evidence.specs.Evidence.{segments_of};
 ghost use Rattle.eos_evidence.specs.SpecFields.{outputs_of};
 ghost use Rattle.eos_source.specs.Said.{known_by};
 ghost use Rattle.eos_source.specs.steps.Runs.{AreSlots};
-ghost use Rattle.eos_board.specs.SeatViews.{AreBelow};
+ghost use Rattle.eos_source.specs.SeatViews.{AreBelow};
 
 use crate::plan::Plan;
 use crate::seats::{fill, read_by_threads};
 use crate::source::Source;
+use crate::tickets::Drawn;
 use eos_base::Workers;
-use eos_board::Drawn;
 use eos_kept::KeptRun;
 use std::alloc::{AllocError, Global};
 use std::thread::Threads;

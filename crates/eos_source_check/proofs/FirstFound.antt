@@ -53,7 +53,7 @@ one_found found i f list here all at begins e so_far =
     ap first_of (subst (λ (n : ℕ). take n found ≡ take i found ++ f ∷ []) z (taken found i f at)) ∙ first_added (take i found) f in
     ap (λ (l : List PartitionFault). slice_get l 0) e ∙ (head_added list here ∙ (ap (λ (o : Option PartitionFault). or_else o (slice_get here 0)) so_far ∙ (ap (or_else (first_of (take i found))) begins ∙ sym ends)))
 
-unchanged : (list here all : List PartitionFault) → here ≡ [] → all ≡ list ++ here → all ≡ list
+pub unchanged : (list here all : List PartitionFault) → here ≡ [] → all ≡ list ++ here → all ≡ list
 unchanged list here all none e = e ∙ (ap (λ (xs : List PartitionFault). list ++ xs) none ∙ append-nil list)
 
 pub first_passed : (known : ℕ → Known) (first : ℕ) (p : Partition) (found : List (Option PartitionFault)) (i : ℕ) (o : Option (Option PartitionFault)) (list here all : List PartitionFault) → slice_get found i ≡ o

@@ -6,16 +6,13 @@ use Rattle.std.specs.Cmp.{IsTotalOrder}
 use Rattle.std.specs.declared.cmp.Ordering.{Ordering}
 use Rattle.std.specs.declared.cmp.Ordering.TheVariants.{Less, Equal}
 use Rattle.std.proofs.lemmas.Bool.{lt-ltb}
-use Rattle.std.proofs.lemmas.Cmp.{nat_cmp_total, int_cmp_total, on_total, then_total, tied_itself}
+use Rattle.std.proofs.lemmas.Cmp.{nat_cmp_total, on_total, then_total, tied_itself}
 use Rattle.eos_base.specs.Members.{Has}
 use Rattle.eos_base.specs.Least.{UpTo, NoneStands}
 use Rattle.eos_base.proofs.LeastOf.{upto_itself, upto_trans}
-use Rattle.eos_base.proofs.NamesInOrder.{name_total}
 use Rattle.eos_evidence.specs.declared.application.App.{App}
 use Rattle.eos_evidence.specs.Evidence.{EvidenceParts}
-use Rattle.eos_touch.specs.FaultNames.{number_of}
 use Rattle.eos_fold.specs.Parts.{PartLog}
-use Rattle.eos_fold.specs.Standing as folds
 use Rattle.eos_table.specs.LogFaults.{log_cmp}
 use Rattle.eos_table.specs.MatchFaults.{fault_cmp as match_cmp}
 use Rattle.eos_table.proofs.LogOrder.{log_total}
@@ -32,14 +29,11 @@ use Rattle.eos_commits.specs.EvidenceLogs.{AreLogsOf}
 use Rattle.eos_verdict.specs.declared.verdict.Fault.{Fault}
 use Rattle.eos_verdict.specs.declared.verdict.Fault.TheVariants.{Partition as InPartition, Log, Match, Lineage}
 use Rattle.eos_verdict.specs.declared.verdict.Verdict.TheVariants.{No}
-use Rattle.eos_check.specs.Verdicts.{Stands, partition_cmp, name_in, verdict_cmp, IsVerdictOf}
+use Rattle.eos_check.proofs.VerdictsUnique.{partition_total}
+use Rattle.eos_check.specs.Verdicts.{Stands, partition_cmp, verdict_cmp, IsVerdictOf}
 use Rattle.eos_base.proofs.WholeList.{first_less, less_upto, same_list}
 use Rattle.eos_faults.specs.OneInput.{OfOneInput}
 use Rattle.eos_source_check.specs.AllFaults.{IsLaterMissing, AreAllFaults}
-
-partition_total : IsTotalOrder partition_cmp
-partition_total = then_total (on_total name_in name_total) (then_total (on_total (λ f. f.offset) nat_cmp_total)
-    (then_total (on_total (λ f. number_of f.kind) nat_cmp_total) (on_total (λ f. folds.producer_of f.kind) int_cmp_total)))
 
 -- a fault of outputs, with its group
 abbrev Grouped : Type 0

@@ -19,6 +19,7 @@ use Rattle.eos_fold.specs.Parts.{PartLog}
 use Rattle.eos_fold.specs.Standing as folds
 use Rattle.eos_commits.specs.EvidenceLogs.{IsLogOf, AreLogsOf}
 use Rattle.eos_commits.proofs.LogsInOrder.{ends_of}
+use Rattle.eos_check.proofs.FirstFault.{Here}
 use Rattle.eos_check.specs.Verdicts.{StandsInPartitions, partition_cmp, name_in}
 use Rattle.eos_check.proofs.FirstFault.{of_partition, later}
 use Rattle.eos_check.proofs.FrontsUnique.{one_front}
@@ -47,9 +48,6 @@ all_so_far ps i list le so_far =
     subst (AreFaultsIn ps) (append-nil list) (so_far [] (subst (λ qs. AreFaultsIn qs []) (sym (drop_all i ps le)) refl))
 
 -- ---- what they are
-
-abbrev Here : (p : Partition) (l : PartLog) → IsLogOf p l → PartitionFault → Type 0
-Here p l of = folds.IsStanding p.end.topic p.end.partition p.end.end of.batches of.stop
 
 -- the log has the front that was walked along
 same_front : (p : Partition) (l : PartLog) (of : IsLogOf p l) (list : List PartitionFault) → AreFaultsOf p list → IsAllOf folds.fault_cmp (Here p l of) list

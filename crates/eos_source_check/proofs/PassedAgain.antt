@@ -10,6 +10,7 @@ use Rattle.eos_evidence.specs.declared.partition.Partition.{Partition}
 use Rattle.eos_evidence.specs.Evidence.{EvidenceParts, IsEvidence, segments_of}
 use Rattle.eos_touch.specs.declared.fault.PartitionFault.{PartitionFault}
 use Rattle.eos_source.specs.Said.{Known}
+use Rattle.eos_source_check.proofs.FirstFound.{unchanged}
 use Rattle.eos_source_check.specs.steps.FaultsAgain.{HasFaultsAgain, HasFaultsIfFound, AreFaultsAgain, AreListedAgain}
 
 -- ---- the numbers of their pieces
@@ -71,9 +72,6 @@ looked_up f found i H None is there = slice_get_past found i there
 looked_up f found i H (Some x) is there = slice_get_read found (length found) i (f x) refl there.0 is
 
 -- ---- one after the other
-
-unchanged : (list here all : List PartitionFault) → here ≡ [] → all ≡ list ++ here → all ≡ list
-unchanged list here all none e = e ∙ (ap (λ (xs : List PartitionFault). list ++ xs) none ∙ append-nil list)
 
 -- so many were passed, with these faults
 abbrev pub Passed : (ℕ → Known) → List Partition → List (Option PartitionFault) → ℕ → List PartitionFault → Type 0

@@ -4,31 +4,21 @@
 use Rattle.std.specs.Prelude.{◌≡◌, ℕ, List, Bool, is_some}
 use Rattle.eos_evidence.specs.Evidence.{EvidenceParts, IsEvidence}
 use Rattle.eos_evidence.specs.SpecFields.{SpecFields}
-use Rattle.eos_fold.specs.Parts.{PartLog}
-use Rattle.eos_commits.specs.EvidenceLogs.{AreLogsOf}
 use Rattle.eos_commits.specs.Faults.{AreInOrder}
+use Rattle.eos_check.specs.KeptLogs.{AreKeptOf}
 use Rattle.eos_check.specs.Verdicts.{IsVerdict}
 use Rattle.eos_kept.specs.Parts.{HaveEpochs}
-use Rattle.eos_kept.specs.Faults.{AreFaultsIn, first_of}
-use Rattle.eos_kept.specs.declared.logs.Logs.{Logs}
-use Rattle.eos_reading.specs.Wanted.{wanted_logs}
+use Rattle.eos_kept.specs.Faults.{first_of}
 use Rattle.eos_source.specs.Said.{Known}
 use Rattle.eos_source.specs.Shapes.{HoldsAsSaid}
 use Rattle.eos_notes.specs.Counts.{AreCounted}
 use Rattle.eos_notes.specs.Lines.{IsAllNotesTextBy}
 use Rattle.eos_source_check.specs.declared.judged.Judged.{Judged}
 
--- what is wanted of the logs of this evidence, each with its least fault
-pub record AreKeptOf (e : EvidenceParts) (logs : Logs) : Type 0 where
-  pub whole : List PartLog
-  pub of : AreLogsOf e.partitions whole
-  pub parts : logs.parts.items ≡ wanted_logs e.spec.apps whole
-  pub faults : AreFaultsIn e.partitions logs.faults.items
-
 -- this is the verdict of this evidence, with what is wanted of its logs, what is counted of its segments, and their leader epochs
 pub record IsJudgedFor (judged : Judged) (evidence : EvidenceParts) : Type 0 where
   pub is_evidence : IsEvidence evidence
-  pub logs : AreKeptOf evidence judged.logs
+  pub logs : AreKeptOf evidence.spec.apps evidence.partitions judged.logs.parts.items judged.logs.faults.items
   pub counted : AreCounted evidence.partitions judged.counted.items
   pub epochs : HaveEpochs evidence.partitions judged.epochs.items
   pub verdict : IsVerdict evidence judged.verdict

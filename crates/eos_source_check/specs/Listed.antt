@@ -9,13 +9,13 @@ use Rattle.eos_verdict.specs.declared.verdict.Fault.{Fault}
 use Rattle.eos_verdict.specs.declared.verdict.Fault.TheVariants.{Partition as InPartition}
 use Rattle.eos_source_check.specs.AllFaults.{AreAllFaults}
 use Rattle.eos_source.specs.Said.{Known}
-use Rattle.eos_source_check.specs.Judged.{AreKeptOf}
+use Rattle.eos_check.specs.KeptLogs.{AreKeptOf}
 use Rattle.eos_source_check.specs.Again.{AreAgain, AreThere}
 
 pub record IsListOf (known : ℕ → Known) (shape : EvidenceParts) (logs : Logs) (list : List Fault) : Type 0 where
   pub again : List (Option Partition)
   pub read : AreAgain known 0 shape.partitions again
-  pub are : (e : EvidenceParts) → IsEvidence e → e.spec ≡ shape.spec → (kept : AreKeptOf e logs) → AreThere again e.partitions → AreAllFaults e kept.whole kept.of list
+  pub are : (e : EvidenceParts) → IsEvidence e → e.spec ≡ shape.spec → (kept : AreKeptOf e.spec.apps e.partitions logs.parts.items logs.faults.items) → AreThere again e.partitions → AreAllFaults e kept.whole kept.of list
 
 -- Where a partition has a fault by itself, the list begins with the first that was found, whatever was read again.
 abbrev pub BeginsAsFound : EvidenceParts → Logs → List Fault → Type 0

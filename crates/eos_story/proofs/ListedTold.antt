@@ -36,8 +36,8 @@ rest_none {scene} {rows} sought all le =
     let none : rest_listed sought all ≡ [] = rw (le-leb all 6 le) refl in
     each_as (rest_listed sought all) (sym none) (nothing scene rows)
 
-pub rest_more : {scene : Scene} {a b : List Row} (sought kept : Sought) (all : ℕ) → (AreTrue scene a → AreTrue scene b) → IsNext a (rows.MorePartitions 6 all kept) b → kept ≡ sought → 6 < all → TellsEach scene a b (rest_listed sought all)
-rest_more {scene} {a} {b} sought kept all are is same lt =
+pub rest_more : {scene : Scene} {a b : List Row} (sought : Sought) (all : ℕ) → (AreTrue scene a → AreTrue scene b) → IsNext a (rows.MorePartitions 6 all sought) b → 6 < all → TellsEach scene a b (rest_listed sought all)
+rest_more {scene} {a} {b} sought all are is lt =
     let some : rest_listed sought all ≡ Listed sought 6 all ∷ [] = rw (lt-leb all 6 lt) refl in
-    let here : Has b (rows.MorePartitions 6 all sought) = subst (λ (s : Sought). Has b (rows.MorePartitions 6 all s)) same (next_has a b (rows.MorePartitions 6 all kept) is) in
-    each_as (rest_listed sought all) (sym some) (told_each (Listed sought 6 all ∷ []) (λ has. (has, tt)) (told_next (rows.MorePartitions 6 all kept) (λ told. Has told (rows.MorePartitions 6 all sought)) are is here))
+    let more : Row = rows.MorePartitions 6 all sought in
+    each_as (rest_listed sought all) (sym some) (told_each (Listed sought 6 all ∷ []) (λ has. (has, tt)) (told_next more (λ told. Has told more) are is (next_has a b more is)))

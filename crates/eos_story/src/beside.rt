@@ -10,7 +10,7 @@ ghost use Rattle.eos_story.specs.Questions.{is_of_offsets as is_of_offsets_log, 
 ghost use Rattle.eos_story.specs.steps.Telling.{TellsEach};
 
 use crate::copies::{copy_name, copy_place};
-use crate::decisions::{decision_of, epoch_after, listed, listed_by, push_each};
+use crate::decisions::{decided_names, epoch_after, listed_by, push_each};
 use crate::records::{count_of, first_found, push_records};
 use crate::row::Row;
 use crate::scene::Scene;
@@ -78,14 +78,6 @@ fn offsets_among(alloc: Global, names: &[PartitionName]) -> Result<Vec<Partition
     Ok(kept)
 }
 
-/// The partitions of the offsets log that the first of these records lists.
-fn offsets_listed(alloc: Global, finds: &[Find]) -> Result<Vec<PartitionName>, AllocError>
-    ensures { IfOk result (λ kept. kept.items ≡ offsets_among (listed_in (slice_get finds.now 0))) }
-{
-    let names = listed(alloc, finds)?;
-    offsets_among(alloc, names.as_slice())
-}
-
 /// The partitions of the offsets log that the decision of the transaction of this producer id and epoch lists.
 fn owed_names(
     scene: &Scene<'_>,
@@ -94,8 +86,8 @@ fn owed_names(
 ) -> Result<Vec<PartitionName>, AllocError>
     ensures { IfOk result (λ names. names.items ≡ offsets_among (listed_in (decision producer (after epoch) scene.now.logs.now))) }
 {
-    let found = decision_of(scene, producer, epoch_after(epoch))?;
-    offsets_listed(scene.alloc, found.as_slice())
+    let names = decided_names(scene, producer, epoch_after(epoch))?;
+    offsets_among(scene.alloc, names.as_slice())
 }
 
 /// In each of them the first data of the transaction.

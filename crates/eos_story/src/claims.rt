@@ -11,7 +11,7 @@ ghost use Rattle.eos_story.specs.steps.Telling.{Tells, TellsEach};
 
 use crate::batches::push_first;
 use crate::copies::copy_place;
-use crate::records::{count_sought, push_find, push_records, push_rest};
+use crate::records::{count_of, push_find, push_records, push_rest};
 use crate::row::Row;
 use crate::scene::Scene;
 use eos_base::PartitionName;
@@ -99,7 +99,7 @@ fn push_each(
 
 /// Adds the first claims that are sought, so many at most, each with the end of its transaction, and how many more there are, or
 /// that there is none.
-fn push_sought(
+pub(crate) fn push_claims(
     scene: &Scene<'_>,
     rows: &mut Vec<Row>,
     sought: &Sought,
@@ -111,18 +111,6 @@ fn push_sought(
     push_each(scene, rows, sought, finds.first.as_slice())?;
     push_rest(scene, rows, sought, most, finds.count)?;
     Ok(())
-}
-
-/// The same, of what is sought for this alone.
-pub(crate) fn push_claims(
-    scene: &Scene<'_>,
-    rows: &mut Vec<Row>,
-    sought: Sought,
-    most: u64,
-) -> Result<(), AllocError>
-    ensures { OnOk result (TellsEach scene.now rows.old.items rows.new.items (Claims sought most ∷ [])) }
-{
-    push_sought(scene, rows, &sought, most)
 }
 
 /// Adds the first claims of an input that no reader of committed records is given, two at most, each with the end of its
@@ -137,7 +125,7 @@ pub(crate) fn push_unseen(
     if count_hidden(scene, &place)? == 0 {
         return Ok(());
     }
-    push_claims(scene, rows, Sought::Hidden(place), 2)?;
+    push_claims(scene, rows, &Sought::Hidden(place), 2)?;
     Ok(())
 }
 
@@ -145,5 +133,5 @@ fn count_hidden(scene: &Scene<'_>, place: &Place) -> Result<u64, AllocError>
     ensures { IfOk result (λ count. count ≡ length (all_of (Hidden place.now) scene.now.logs.now)) }
 {
     let place = copy_place(place)?;
-    count_sought(scene, Sought::Hidden(place))
+    count_of(scene, &Sought::Hidden(place))
 }

@@ -18,19 +18,13 @@ pub(crate) fn copy_bytes(bytes: &Bytes) -> Result<Bytes, AllocError>
 pub(crate) fn copy_name(name: &PartitionName) -> Result<PartitionName, AllocError>
     ensures { IfOk result (λ copy. copy ≡ name.now) }
 {
-    Ok(PartitionName {
-        topic: name.topic.clone()?,
-        partition: name.partition,
-    })
+    name.clone()
 }
 
 pub(crate) fn copy_place(place: &Place) -> Result<Place, AllocError>
     ensures { IfOk result (λ copy. copy ≡ place.now) }
 {
-    Ok(Place {
-        partition: copy_name(&place.partition)?,
-        offset: place.offset,
-    })
+    place.clone()
 }
 
 fn copy_item(item: &Item) -> Result<Item, AllocError>

@@ -11,7 +11,6 @@ ghost use Rattle.eos_story.specs.steps.Telling.{TellsEach};
 ghost use Rattle.std.specs.Prelude.{Some};
 
 use crate::batches::push_first;
-use crate::copies::copy_sought;
 use crate::records::{first_found, push_records};
 use crate::row::{Row, add_row};
 use crate::scene::Scene;
@@ -82,7 +81,7 @@ pub(crate) fn listed_by(alloc: Global, find: &Find) -> Result<Vec<PartitionName>
 }
 
 /// The partitions that the first of these records lists.
-pub(crate) fn listed(alloc: Global, finds: &[Find]) -> Result<Vec<PartitionName>, AllocError>
+fn listed(alloc: Global, finds: &[Find]) -> Result<Vec<PartitionName>, AllocError>
     ensures { IfOk result (λ names. names.items ≡ listed_by (slice_get finds.now 0)) }
 {
     if finds.is_empty() {
@@ -111,16 +110,15 @@ pub(crate) fn push_each(
 fn push_rest(
     scene: &Scene<'_>,
     rows: &mut Vec<Row>,
-    sought: &Sought,
+    sought: Sought,
     all: usize,
 ) -> Result<(), AllocError>
-    requires { 6 < all → AreListed scene.now.logs.now sought.now all }
-    ensures { OnOk result (TellsEach scene.now rows.old.items rows.new.items (rest_listed sought.now all)) }
+    requires { 6 < all → AreListed scene.now.logs.now sought all }
+    ensures { OnOk result (TellsEach scene.now rows.old.items rows.new.items (rest_listed sought all)) }
 {
     if all <= MOST {
         return Ok(());
     }
-    let sought = copy_sought(sought)?;
     add_row(
         scene,
         rows,
@@ -137,22 +135,6 @@ fn push_rest(
 fn push_listed(
     scene: &Scene<'_>,
     rows: &mut Vec<Row>,
-    sought: &Sought,
-    names: &[PartitionName],
-    wanted: Wanted,
-) -> Result<(), AllocError>
-    requires { 6 < length names.now → AreListed scene.now.logs.now sought.now (length names.now) }
-    ensures { OnOk result (TellsEach scene.now rows.old.items rows.new.items (in_each sought.now wanted names.now)) }
-{
-    push_each(scene, rows, names, wanted)?;
-    push_rest(scene, rows, sought, names.len())?;
-    Ok(())
-}
-
-/// The same, of what is sought for this alone.
-fn push_listed_by(
-    scene: &Scene<'_>,
-    rows: &mut Vec<Row>,
     sought: Sought,
     names: &[PartitionName],
     wanted: Wanted,
@@ -160,43 +142,28 @@ fn push_listed_by(
     requires { 6 < length names.now → AreListed scene.now.logs.now sought (length names.now) }
     ensures { OnOk result (TellsEach scene.now rows.old.items rows.new.items (in_each sought wanted names.now)) }
 {
-    push_listed(scene, rows, &sought, names, wanted)
+    push_each(scene, rows, names, wanted)?;
+    push_rest(scene, rows, sought, names.len())?;
+    Ok(())
 }
 
-/// The decision whose markers have this producer id and epoch, if there is one; and the partitions that it lists.
-pub(crate) fn decision_of(
-    scene: &Scene<'_>,
-    producer: i64,
-    epoch: i16,
-) -> Result<Vec<Find>, AllocError>
+/// The decision whose markers have this producer id and epoch, if there is one.
+fn decision_of(scene: &Scene<'_>, producer: i64, epoch: i16) -> Result<Vec<Find>, AllocError>
     ensures { IfOk result (λ found. slice_get found.items 0 ≡ decision producer epoch scene.now.logs.now) }
 {
     first_found(scene, Sought::Deciding { producer, epoch })
 }
 
-/// Adds the first record that is found, which is the decision, and of each partition that it lists what `push_listing` says.
-fn push_decided(
+/// The partitions that it lists.
+pub(crate) fn decided_names(
     scene: &Scene<'_>,
-    rows: &mut Vec<Row>,
     producer: i64,
     epoch: i16,
-    found: &[Find],
-) -> Result<(), AllocError>
-    requires { slice_get found.now 0 ≡ decision producer epoch scene.now.logs.now }
-    ensures { OnOk result (TellsEach scene.now rows.old.items rows.new.items (listing scene.now.logs.now producer epoch)) }
+) -> Result<Vec<PartitionName>, AllocError>
+    ensures { IfOk result (λ names. names.items ≡ listed_by (decision producer epoch scene.now.logs.now)) }
 {
-    push_records(scene, rows, Sought::Deciding { producer, epoch }, 1)?;
-    let names = listed(scene.alloc, found)?;
-    let marking = Wanted::Marking { producer, epoch };
-    let decided = Sought::Deciding { producer, epoch };
-    push_listed_by(scene, rows, decided, names.as_slice(), marking)?;
-    let data = Wanted::Data {
-        producer,
-        epoch: epoch_before(epoch),
-    };
-    let decided = Sought::Deciding { producer, epoch };
-    push_listed_by(scene, rows, decided, names.as_slice(), data)?;
-    Ok(())
+    let found = decision_of(scene, producer, epoch)?;
+    listed(scene.alloc, found.as_slice())
 }
 
 /// Adds the decision whose markers have this producer id and epoch, and of each partition that it lists the marker, or that there
@@ -209,8 +176,17 @@ pub(crate) fn push_listing(
 ) -> Result<(), AllocError>
     ensures { OnOk result (TellsEach scene.now rows.old.items rows.new.items (listing scene.now.logs.now producer epoch)) }
 {
-    let found = decision_of(scene, producer, epoch)?;
-    push_decided(scene, rows, producer, epoch, found.as_slice())?;
+    push_records(scene, rows, Sought::Deciding { producer, epoch }, 1)?;
+    let names = decided_names(scene, producer, epoch)?;
+    let marking = Wanted::Marking { producer, epoch };
+    let decided = Sought::Deciding { producer, epoch };
+    push_listed(scene, rows, decided, names.as_slice(), marking)?;
+    let data = Wanted::Data {
+        producer,
+        epoch: epoch_before(epoch),
+    };
+    let decided = Sought::Deciding { producer, epoch };
+    push_listed(scene, rows, decided, names.as_slice(), data)?;
     Ok(())
 }
 
@@ -257,23 +233,18 @@ fn lister(producer: i64, epoch: i16, found: &[Find]) -> Sought
     Sought::Deciding { producer, epoch }
 }
 
-/// Adds the first record that is found, which is the decision, and of each partition what `push_markers` says.
-fn push_marked(
+/// The records by which the partitions of the transaction are known whose end markers have this producer id and epoch, and these.
+fn names_open(
     scene: &Scene<'_>,
-    rows: &mut Vec<Row>,
     producer: i64,
     epoch: i16,
-    found: &[Find],
-) -> Result<(), AllocError>
-    requires { slice_get found.now 0 ≡ decision producer epoch scene.now.logs.now }
-    ensures { OnOk result (TellsEach scene.now rows.old.items rows.new.items (markers_of scene.now.logs.now producer epoch)) }
+) -> Result<(Sought, Vec<PartitionName>), AllocError>
+    ensures sought { IfOk result (λ known. known.0 ≡ lister producer epoch (decision producer epoch scene.now.logs.now)) }
+    ensures names { IfOk result (λ known. known.1.items ≡ listed_open scene.now.logs.now producer (decision producer epoch scene.now.logs.now)) }
 {
-    push_records(scene, rows, Sought::Deciding { producer, epoch }, 1)?;
-    let names = listed_open(scene, producer, found)?;
-    let sought = lister(producer, epoch, found);
-    let marking = Wanted::Marking { producer, epoch };
-    push_listed_by(scene, rows, sought, names.as_slice(), marking)?;
-    Ok(())
+    let found = decision_of(scene, producer, epoch)?;
+    let names = listed_open(scene, producer, found.as_slice())?;
+    Ok((lister(producer, epoch, found.as_slice()), names))
 }
 
 /// Adds the decision whose markers have this producer id and epoch, and of each partition that is listed for the transaction the
@@ -286,7 +257,9 @@ pub(crate) fn push_markers(
 ) -> Result<(), AllocError>
     ensures { OnOk result (TellsEach scene.now rows.old.items rows.new.items (markers_of scene.now.logs.now producer epoch)) }
 {
-    let found = decision_of(scene, producer, epoch)?;
-    push_marked(scene, rows, producer, epoch, found.as_slice())?;
+    push_records(scene, rows, Sought::Deciding { producer, epoch }, 1)?;
+    let (sought, names) = names_open(scene, producer, epoch)?;
+    let marking = Wanted::Marking { producer, epoch };
+    push_listed(scene, rows, sought, names.as_slice(), marking)?;
     Ok(())
 }

@@ -1,7 +1,7 @@
 //! Which rows a fault has, by its kind.
 
 ghost use Rattle.std.specs.Prelude.{◌≡◌, IfOk, OnOk, Some};
-ghost use Rattle.eos_story.specs.Questions.{of_log, marker_epoch, there, states_about, of_ended, of_match};
+ghost use Rattle.eos_story.specs.Questions.{of_log, marker_epoch, there, states_about, of_match};
 ghost use Rattle.eos_story.specs.Rows.{AreTrue};
 ghost use Rattle.eos_story.specs.Wholeness.{IsWhole};
 ghost use Rattle.eos_story.specs.steps.Telling.{Tells, TellsEach};
@@ -98,26 +98,14 @@ fn push_about(
     }
 }
 
-/// Of the transaction whose end markers have this epoch.
-fn ended_rows(
-    scene: &Scene<'_>,
-    rows: &mut Vec<Row>,
-    fault: &MatchFault,
-    epoch: i16,
-) -> Result<(), AllocError>
-    ensures { OnOk result (TellsEach scene.now rows.old.items rows.new.items (of_ended scene.now.logs.now fault.now epoch)) }
-{
-    let producer = fault.producer;
-    push_listing(scene, rows, producer, epoch)?;
-    push_there(scene, rows, &fault.partition, producer, epoch)?;
-    push_about(scene, rows, fault.kind, producer, fault.epoch)?;
-    Ok(())
-}
-
 fn match_rows(scene: &Scene<'_>, rows: &mut Vec<Row>, fault: &MatchFault) -> Result<(), AllocError>
     ensures { OnOk result (TellsEach scene.now rows.old.items rows.new.items (of_match scene.now.logs.now fault.now)) }
 {
-    ended_rows(scene, rows, fault, marker_epoch(fault.kind, fault.epoch))?;
+    let producer = fault.producer;
+    let epoch = marker_epoch(fault.kind, fault.epoch);
+    push_listing(scene, rows, producer, epoch)?;
+    push_there(scene, rows, &fault.partition, producer, epoch)?;
+    push_about(scene, rows, fault.kind, producer, fault.epoch)?;
     Ok(())
 }
 

@@ -3,7 +3,7 @@
 ghost use Rattle.std.specs.Prelude.{◌≡◌, IfOk, Some};
 ghost use Rattle.std.specs.List.{list_any};
 ghost use Rattle.std.specs.Option.{option_copied, option_map};
-ghost use Rattle.eos_story.specs.GroupCommits.{is_passing, input_of, passes_before, was_past, is_back, commits_at, is_by_writer, is_last_for_next, is_decided_by, decides_in, is_listed_by, is_owed_by, is_owed};
+ghost use Rattle.eos_story.specs.GroupCommits.{is_passing, input_of, passes_before, was_past, is_back, commits_at, is_by_writer, is_last_for_next, is_decided_by, decides_in, is_owed_by, is_owed};
 
 use crate::names::is_there;
 use crate::signs::Told;
@@ -184,23 +184,7 @@ fn is_decided_in(
     Ok(false)
 }
 
-/// Whether the transaction of the record at the fault's place is this one, and its decision lists this partition.
-fn is_listed_by(
-    alloc: Global,
-    told: &Told<'_>,
-    name: &PartitionName,
-    producer: i64,
-    epoch: i16,
-) -> Result<bool, AllocError>
-    ensures { IfOk result (λ is. is ≡ is_listed_by (option_copied told.now.place) told.now.rows.now name.now producer epoch) }
-{
-    if !has_writer(told.place, Some((producer, epoch)), told.rows) {
-        return Ok(false);
-    }
-    let is = is_decided_in(alloc, producer, epoch_after(epoch), name, told.rows)?;
-    Ok(is)
-}
-
+/// Whether this is the offsets log, and the transaction of the record at the fault's place the one whose decision lists this partition.
 fn is_owed_by(
     alloc: Global,
     told: &Told<'_>,
@@ -210,10 +194,10 @@ fn is_owed_by(
 ) -> Result<bool, AllocError>
     ensures { IfOk result (λ is. is ≡ is_owed_by (option_copied told.now.place) told.now.rows.now name.now producer epoch) }
 {
-    if !is_of_offsets(name) {
+    if !is_of_offsets(name) || !has_writer(told.place, Some((producer, epoch)), told.rows) {
         return Ok(false);
     }
-    let is = is_listed_by(alloc, told, name, producer, epoch)?;
+    let is = is_decided_in(alloc, producer, epoch_after(epoch), name, told.rows)?;
     Ok(is)
 }
 

@@ -9,7 +9,7 @@ ghost use Rattle.eos_story.specs.Places.{at_text, spot_text, is_there, mark_of};
 use eos_base::PartitionName;
 use eos_claims::Place;
 use eos_sought::{Placed, is_same};
-use eos_text::{push_escaped, push_text, push_value};
+use eos_text::{push_text, push_value};
 use std::alloc::{AllocError, Global};
 
 /// Adds a label and the name of a partition.
@@ -21,9 +21,7 @@ pub fn push_name(
 ) -> Result<(), AllocError>
     ensures { OnOk result (Adds (string_bytes out.old) (string_bytes out.new) (label.now ++ name_text name.now.topic name.now.partition)) }
 {
-    push_escaped(alloc, out, label, name.topic.as_slice())?;
-    push_value(out, "-", &name.partition)?;
-    Ok(())
+    eos_verdict::push_name(alloc, out, label, name.topic.as_slice(), &name.partition)
 }
 
 /// Adds a label and an offset of a partition.

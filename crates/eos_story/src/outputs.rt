@@ -136,18 +136,6 @@ fn push_past(
     Ok(())
 }
 
-/// The same, of the commits of a group.
-fn push_past_of(
-    scene: &Scene<'_>,
-    rows: &mut Vec<Row>,
-    passing: Sought,
-    place: &Place,
-) -> Result<(), AllocError>
-    ensures { OnOk result (TellsEach scene.now rows.old.items rows.new.items (Records passing 3 ∷ others_past scene.now.logs.now passing place.now)) }
-{
-    push_past(scene, rows, &passing, place)
-}
-
 /// The commits that go past an input, those of the group or else those of others; and the last of the group that doesn't.
 fn push_commits(
     scene: &Scene<'_>,
@@ -173,11 +161,15 @@ fn push_passing(
 {
     let by = copy_bytes(group)?;
     let past = copy_place(place)?;
-    let passing = Sought::Passing {
-        group: by,
-        place: past,
-    };
-    push_past_of(scene, rows, passing, place)?;
+    push_past(
+        scene,
+        rows,
+        &Sought::Passing {
+            group: by,
+            place: past,
+        },
+        place,
+    )?;
     let named = copy_bytes(group)?;
     let end = copy_place(place)?;
     push_last_of(
@@ -204,7 +196,7 @@ fn output_rows(
     let at = copy_place(input)?;
     push_records(scene, rows, Sought::At(at), 1)?;
     let claimed = copy_place(input)?;
-    push_claims(scene, rows, Sought::Claiming(claimed), 3)?;
+    push_claims(scene, rows, &Sought::Claiming(claimed), 3)?;
     push_beside(scene, rows, fault)?;
     let meant = group_bytes(scene, group)?;
     push_commits(scene, rows, meant, input)?;

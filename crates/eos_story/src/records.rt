@@ -33,13 +33,6 @@ pub(crate) fn count_of(scene: &Scene<'_>, sought: &Sought) -> Result<u64, AllocE
     Ok(finds.count)
 }
 
-/// The same, of what is sought for this alone.
-pub(crate) fn count_sought(scene: &Scene<'_>, sought: Sought) -> Result<u64, AllocError>
-    ensures { IfOk result (λ count. count ≡ length (all_of sought scene.now.logs.now)) }
-{
-    count_of(scene, &sought)
-}
-
 /// The first data record that is sought, if there is one.
 pub(crate) fn first_found(scene: &Scene<'_>, sought: Sought) -> Result<Vec<Find>, AllocError>
     ensures { IfOk result (λ found. slice_get found.items 0 ≡ slice_get (all_of sought scene.now.logs.now) 0) }
@@ -125,19 +118,6 @@ pub(crate) fn push_counted(
 }
 
 /// The same, of what is sought for this alone, without the count.
-fn push_sought(
-    scene: &Scene<'_>,
-    rows: &mut Vec<Row>,
-    sought: &Sought,
-    most: u64,
-) -> Result<(), AllocError>
-    ensures { OnOk result (TellsEach scene.now rows.old.items rows.new.items (Records sought.now most ∷ [])) }
-{
-    push_counted(scene, rows, sought, most)?;
-    Ok(())
-}
-
-/// The same, of what is sought for this alone.
 pub(crate) fn push_records(
     scene: &Scene<'_>,
     rows: &mut Vec<Row>,
@@ -146,7 +126,8 @@ pub(crate) fn push_records(
 ) -> Result<(), AllocError>
     ensures { OnOk result (TellsEach scene.now rows.old.items rows.new.items (Records sought most ∷ [])) }
 {
-    push_sought(scene, rows, &sought, most)
+    push_counted(scene, rows, &sought, most)?;
+    Ok(())
 }
 
 /// Adds how many data records are sought so, where there are more than so many, or that there is none; and the last of them.

@@ -1,6 +1,6 @@
 -- In which order pieces are drawn.
 use Rattle.std.specs.Prelude.{◌≡◌, ℕ, List, length, map, slice_index}
-use Rattle.eos_board.specs.SeatViews.{AreBelow}
+use Rattle.eos_source.specs.SeatViews.{AreBelow}
 use Rattle.eos_source.specs.declared.order.Turn.{Turn}
 
 -- the pieces whose turns these are

@@ -9,7 +9,7 @@ use Rattle.eos_source.specs.declared.seats.Stint.{Stint}
 use Rattle.eos_source.specs.Said.{Known}
 use Rattle.eos_source.specs.steps.Order.{ordered}
 use Rattle.eos_source.specs.steps.Runs.{IsSlot}
-use Rattle.eos_board.specs.SeatViews.{Counter, SeatView, IsFresh}
+use Rattle.eos_source.specs.SeatViews.{Counter, SeatView, IsFresh}
 
 -- what became of a piece of these names
 abbrev pub IsReading : {F : Type 0} → (ℕ → Known) → (ℕ → Option F → Type 0) → List (List ℕ) → List App → List Segment → Reading F → Type 0

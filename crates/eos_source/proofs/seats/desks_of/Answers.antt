@@ -3,7 +3,7 @@ use Rattle.std.proofs.lemmas.List.{length-append}
 use Rattle.std.specs.Prelude.{All}
 use Rattle.eos_source.specs.steps.Seats.{IsDesk}
 use Rattle.eos_source.proofs.PiecesDrawn.{all_last}
-use Rattle.eos_board.specs.SeatViews.{IsFresh}
+use Rattle.eos_source.specs.SeatViews.{IsFresh}
 use Rattle.eos_source.proofs.seats.desks_of.Goals as goal
 
 pub loop-seat-preserved : goal.loop-seat-preserved

@@ -2,7 +2,7 @@ use Rattle.std.proofs.Common.{◌≡◌, length, vec_len}
 use Rattle.std.specs.Prelude.{All}
 use Rattle.std.specs.Vec.Iter.{into_iter_items}
 use Rattle.eos_source.specs.steps.Seats.{IsDesk}
-use Rattle.eos_board.specs.SeatViews.{IsFresh}
+use Rattle.eos_source.specs.SeatViews.{IsFresh}
 use Rattle.eos_source.proofs.seats.desks_of.Given as goal
 
 abbrev pub invariant-loop-seat : goal.invariant-loop-seat

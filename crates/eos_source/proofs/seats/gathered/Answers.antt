@@ -6,7 +6,7 @@ use Rattle.eos_source.specs.steps.Order.{ordered}
 use Rattle.eos_source.specs.steps.Seats.{IsReading, all_numbers}
 use Rattle.eos_source.proofs.PiecesDrawn.{all_map, numbers_drawn, leaves_none, each_once}
 use Rattle.eos_source.proofs.PiecesOrdered.{each_ordered, each_drawn}
-use Rattle.eos_board.specs.SeatViews.{SeatView, AreBelow, drawn_of_all}
+use Rattle.eos_source.specs.SeatViews.{SeatView, AreBelow, drawn_of_all}
 use Rattle.eos_source.proofs.seats.gathered.Goals as goal
 
 pub gather-requires-clause-made : goal.gather-requires-clause-made

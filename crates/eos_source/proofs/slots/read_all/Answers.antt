@@ -13,7 +13,7 @@ use Rattle.eos_source.specs.steps.Slots.{AreSlotsSoFar, AreFilledAsWell, IsFille
 use Rattle.eos_source.proofs.PiecesDrawn.{all_both}
 use Rattle.eos_source.proofs.SlotsFilled.{all_filled}
 use Rattle.eos_source.proofs.SlotsRead.{none_yet, all_read}
-use Rattle.eos_board.specs.SeatViews.{once_below}
+use Rattle.eos_source.specs.SeatViews.{once_below}
 use Rattle.eos_source.proofs.slots.read_all.Goals as goal
 
 pub loop-seat-init : goal.loop-seat-init

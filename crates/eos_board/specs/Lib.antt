@@ -1,3 +1,0 @@
-pub mod TicketRule
-pub mod SeatViews
-pub mod steps
