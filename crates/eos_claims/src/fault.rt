@@ -31,30 +31,31 @@ impl OutputKind {
     pub fn number(self) -> u8
         ensures { result ≡ number_of self }
     {
-        self.row().0
+        match self {
+            OutputKind::ForeignSource => 5,
+            OutputKind::NoSuchInput => 6,
+            OutputKind::Early => 7,
+            OutputKind::CountDisagrees => 8,
+            OutputKind::NumberRange => 9,
+            OutputKind::Repeated => 10,
+            OutputKind::Missing => 11,
+            OutputKind::OtherTransaction => 12,
+        }
     }
 
     /// The kind's name, as a verdict prints it.
     pub fn name(self) -> &'static str
         ensures { result.now ≡ name_of self }
     {
-        self.row().1
-    }
-
-    /// The number and the name, a line for each kind.
-    fn row(self) -> (u8, &'static str)
-        ensures number { result.0 ≡ number_of self }
-        ensures name { result.1.now ≡ name_of self }
-    {
         match self {
-            OutputKind::ForeignSource => (5, "ForeignSource"),
-            OutputKind::NoSuchInput => (6, "NoSuchInput"),
-            OutputKind::Early => (7, "Early"),
-            OutputKind::CountDisagrees => (8, "CountDisagrees"),
-            OutputKind::NumberRange => (9, "NumberRange"),
-            OutputKind::Repeated => (10, "Repeated"),
-            OutputKind::Missing => (11, "Missing"),
-            OutputKind::OtherTransaction => (12, "OtherTransaction"),
+            OutputKind::ForeignSource => "ForeignSource",
+            OutputKind::NoSuchInput => "NoSuchInput",
+            OutputKind::Early => "Early",
+            OutputKind::CountDisagrees => "CountDisagrees",
+            OutputKind::NumberRange => "NumberRange",
+            OutputKind::Repeated => "Repeated",
+            OutputKind::Missing => "Missing",
+            OutputKind::OtherTransaction => "OtherTransaction",
         }
     }
 }

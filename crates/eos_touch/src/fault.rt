@@ -52,27 +52,25 @@ impl PartitionFaultKind {
     pub fn number(self) -> u8
         ensures { result ≡ number_of self }
     {
-        self.row().0
+        match self {
+            PartitionFaultKind::BadBatch { .. } => 1,
+            PartitionFaultKind::Gap { .. } => 2,
+            PartitionFaultKind::Pair { fault, .. } => fault.number(),
+            PartitionFaultKind::End { .. } => 10,
+            PartitionFaultKind::OpenAtEnd { .. } => 11,
+        }
     }
 
     /// The kind's name, as a verdict prints it.
     pub fn name(self) -> &'static str
         ensures { result.now ≡ name_of self }
     {
-        self.row().1
-    }
-
-    /// The number and the name, a line for each kind.
-    fn row(self) -> (u8, &'static str)
-        ensures number { result.0 ≡ number_of self }
-        ensures name { result.1.now ≡ name_of self }
-    {
         match self {
-            PartitionFaultKind::BadBatch { .. } => (1, "BadBatch"),
-            PartitionFaultKind::Gap { .. } => (2, "Gap"),
-            PartitionFaultKind::Pair { fault, .. } => (fault.number(), fault.name()),
-            PartitionFaultKind::End { .. } => (10, "End"),
-            PartitionFaultKind::OpenAtEnd { .. } => (11, "OpenAtEnd"),
+            PartitionFaultKind::BadBatch { .. } => "BadBatch",
+            PartitionFaultKind::Gap { .. } => "Gap",
+            PartitionFaultKind::Pair { fault, .. } => fault.name(),
+            PartitionFaultKind::End { .. } => "End",
+            PartitionFaultKind::OpenAtEnd { .. } => "OpenAtEnd",
         }
     }
 }

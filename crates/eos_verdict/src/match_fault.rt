@@ -41,29 +41,29 @@ impl MatchFaultKind {
     pub fn number(self) -> u8
         ensures { result ≡ number_of self }
     {
-        self.row().0
+        match self {
+            MatchFaultKind::TwiceDecided => 1,
+            MatchFaultKind::Undecided => 2,
+            MatchFaultKind::WrongKind => 3,
+            MatchFaultKind::NotListed => 4,
+            MatchFaultKind::StrayMarker => 5,
+            MatchFaultKind::AbsentPartition => 6,
+            MatchFaultKind::MissingMarker => 7,
+        }
     }
 
     /// The kind's name, as a verdict prints it.
     pub fn name(self) -> &'static str
         ensures { result.now ≡ name_of self }
     {
-        self.row().1
-    }
-
-    /// The number and the name, a line for each kind.
-    fn row(self) -> (u8, &'static str)
-        ensures number { result.0 ≡ number_of self }
-        ensures name { result.1.now ≡ name_of self }
-    {
         match self {
-            MatchFaultKind::TwiceDecided => (1, "TwiceDecided"),
-            MatchFaultKind::Undecided => (2, "Undecided"),
-            MatchFaultKind::WrongKind => (3, "WrongKind"),
-            MatchFaultKind::NotListed => (4, "NotListed"),
-            MatchFaultKind::StrayMarker => (5, "StrayMarker"),
-            MatchFaultKind::AbsentPartition => (6, "AbsentPartition"),
-            MatchFaultKind::MissingMarker => (7, "MissingMarker"),
+            MatchFaultKind::TwiceDecided => "TwiceDecided",
+            MatchFaultKind::Undecided => "Undecided",
+            MatchFaultKind::WrongKind => "WrongKind",
+            MatchFaultKind::NotListed => "NotListed",
+            MatchFaultKind::StrayMarker => "StrayMarker",
+            MatchFaultKind::AbsentPartition => "AbsentPartition",
+            MatchFaultKind::MissingMarker => "MissingMarker",
         }
     }
 }

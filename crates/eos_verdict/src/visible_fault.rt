@@ -36,26 +36,23 @@ impl VisibleFaultKind {
     pub fn number(self) -> u8
         ensures { result ≡ number_of self }
     {
-        self.row().0
+        match self {
+            VisibleFaultKind::BadLineage => 1,
+            VisibleFaultKind::BadOffset { .. } => 2,
+            VisibleFaultKind::SplitGroup => 3,
+            VisibleFaultKind::OffsetDeleted => 4,
+        }
     }
 
     /// The kind's name, as a verdict prints it.
     pub fn name(self) -> &'static str
         ensures { result.now ≡ name_of self }
     {
-        self.row().1
-    }
-
-    /// The number and the name, a line for each kind.
-    fn row(self) -> (u8, &'static str)
-        ensures number { result.0 ≡ number_of self }
-        ensures name { result.1.now ≡ name_of self }
-    {
         match self {
-            VisibleFaultKind::BadLineage => (1, "BadLineage"),
-            VisibleFaultKind::BadOffset { .. } => (2, "BadOffset"),
-            VisibleFaultKind::SplitGroup => (3, "SplitGroup"),
-            VisibleFaultKind::OffsetDeleted => (4, "OffsetDeleted"),
+            VisibleFaultKind::BadLineage => "BadLineage",
+            VisibleFaultKind::BadOffset { .. } => "BadOffset",
+            VisibleFaultKind::SplitGroup => "SplitGroup",
+            VisibleFaultKind::OffsetDeleted => "OffsetDeleted",
         }
     }
 }
