@@ -87,10 +87,12 @@ fn answer_shape<D: Disk, T: Timed + Watch, R: Threads + Sync>(
     ensures refused { IfErr result (IsOfPieces (outcomes_of (D.holds folder.entry.disk.now) folder.entry.path.now shape.now.evidence shape.now.forms.items) (pieces_of shape.now.evidence) asked.now.all) }
 {
     let source = FolderSource {
-        disk: folder.disk,
-        folder: folder.path,
+        folder: eos_source::Folder {
+            disk: folder.disk,
+            path: folder.path,
+            watch: asked.watch,
+        },
         shape,
-        watch: asked.watch,
     };
     let pieces = Pieces {
         source: &source,

@@ -21,7 +21,7 @@ use eos_disk::{
     ChangeFault, Disk, DiskMut, FolderFault, NewFile, Shape, Watch, begin_file, drop_file,
     end_file, read_shape,
 };
-use eos_source::FolderSource;
+use eos_source::{Folder, FolderSource};
 use eos_source_check::{Pieces, refusal_of};
 use eos_text::finish;
 use std::alloc::Global;
@@ -69,12 +69,12 @@ fn answer_shape<D: Disk, T: Watch, R: Threads + Sync>(
     ensures opened { IfOk result (λ answer. AreOpened (outcomes_of (D.holds asked.now.disk.now) asked.now.folder.now shape.now.evidence shape.now.forms.items) (pieces_of shape.now.evidence)) }
     ensures refused { IfErr result (IsUndrawnOf (outcomes_of (D.holds asked.now.disk.now) asked.now.folder.now shape.now.evidence shape.now.forms.items) (pieces_of shape.now.evidence) (is_later asked.now.fault)) }
 {
-    let source = FolderSource {
+    let folder = Folder {
         disk: asked.disk,
-        folder: asked.folder,
-        shape,
+        path: asked.folder,
         watch: asked.watch,
     };
+    let source = FolderSource { folder, shape };
     let pieces = Pieces {
         source: &source,
         shape: &shape.evidence,

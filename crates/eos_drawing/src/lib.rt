@@ -12,7 +12,7 @@ mod when;
 
 pub use command::draw_folder;
 pub use eos_picture::{Drawing, Line, Look, Point, Shape, Size, Times, drawing_of, svg_text};
-pub use eos_source_check::Folder;
+pub use eos_source::Folder;
 pub use folder::{Asked, Undrawn, draw_folder_to};
 pub use picture::judged_picture;
 pub use pictures::{First, first_pictures};

@@ -20,10 +20,8 @@ ghost use Rattle.eos_drawing.specs.steps.Undrawn.{IsAfter, IsUndrawn, IsUndrawnO
 use crate::answer::{Wanted, drawn_of};
 use eos_base::Workers;
 use eos_disk::{Disk, FolderFault, Shape, Watch, read_shape};
-use eos_source::{FolderSource, Source};
-use eos_source_check::{
-    Folder, Judged, Pieces, Unlisted, all_source_faults, judge_source, refusal_of,
-};
+use eos_source::{Folder, FolderSource, Source};
+use eos_source_check::{Judged, Pieces, Unlisted, all_source_faults, judge_source, refusal_of};
 use eos_verdict::{Fault, Verdict};
 use std::alloc::Global;
 use std::thread::Threads;
@@ -170,12 +168,7 @@ fn of_shape<D: Disk, T: Watch, R: Threads + Sync>(
     ensures opened { IfOk result (λ texts. AreOpened (outcomes_of (D.holds folder.entry.disk.now) folder.entry.path.now shape.now.evidence shape.now.forms.items) (pieces_of shape.now.evidence)) }
     ensures refused { IfErr result (IsUndrawnOf (outcomes_of (D.holds folder.entry.disk.now) folder.entry.path.now shape.now.evidence shape.now.forms.items) (pieces_of shape.now.evidence) (is_later (Some first.now.most))) }
 {
-    let source = FolderSource {
-        disk: folder.disk,
-        folder: folder.path,
-        shape,
-        watch: folder.watch,
-    };
+    let source = FolderSource { folder, shape };
     let pieces = Pieces {
         source: &source,
         shape: &shape.evidence,

@@ -18,8 +18,8 @@ use eos_disk::{Disk, FolderFault, HostDisk, Shape, Watch, read_shape};
 use eos_ending::{
     Ending, Meter, Progress, STANDARD, Subject, end, end_fewer, end_unread, say_notes,
 };
-use eos_source::FolderSource;
-use eos_source_check::{Folder, Pieces, refusal_of};
+use eos_source::{Folder, FolderSource};
+use eos_source_check::{Pieces, refusal_of};
 use eos_text::{WriteFault, finish};
 use eos_words::Explain;
 use std::alloc::Global;
@@ -68,18 +68,13 @@ fn answer_shape<D: Disk, T: Watch, R: Threads + Sync>(
     ensures opened { IfOk result (λ answer. AreOpened (outcomes_of (D.holds folder.entry.disk.now) folder.entry.path.now shape.now.evidence shape.now.forms.items) (pieces_of shape.now.evidence)) }
     ensures refused { IfErr result (IsOfPieces (outcomes_of (D.holds folder.entry.disk.now) folder.entry.path.now shape.now.evidence shape.now.forms.items) (pieces_of shape.now.evidence) true) }
 {
-    let source = FolderSource {
-        disk: folder.disk,
-        folder: folder.path,
-        shape,
-        watch: folder.watch,
-    };
+    let source = FolderSource { folder, shape };
     let pieces = Pieces {
         source: &source,
         shape: &shape.evidence,
     };
     let asked = Asked {
-        folder: folder.path,
+        folder: source.folder.path,
         workers: which.workers,
         number: which.fault.unwrap_or(1),
     };

@@ -19,7 +19,7 @@ mod story;
 mod told;
 mod whole_story;
 
-pub use eos_source_check::Folder;
+pub use eos_source::Folder;
 pub use folder::{Explained, Unexplained, Which, explain_folder, explain_folder_to};
 pub use stories::{First, first_stories};
 pub use whole_story::{Story, story_text};

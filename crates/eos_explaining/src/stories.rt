@@ -25,8 +25,8 @@ use eos_base::Workers;
 use eos_check::Verdict;
 use eos_disk::{Disk, FolderFault, Shape, Watch, read_shape};
 use eos_evidence::Partition;
-use eos_source::{FolderSource, Source};
-use eos_source_check::{Folder, Judged, Pieces, Unlisted, judge_source, refusal_of};
+use eos_source::{Folder, FolderSource, Source};
+use eos_source_check::{Judged, Pieces, Unlisted, judge_source, refusal_of};
 use std::alloc::Global;
 use std::thread::Threads;
 
@@ -137,17 +137,12 @@ fn of_shape<D: Disk, T: Watch, R: Threads + Sync>(
     ensures opened { IfOk result (λ texts. AreOpened (outcomes_of (D.holds folder.entry.disk.now) folder.entry.path.now shape.now.evidence shape.now.forms.items) (pieces_of shape.now.evidence)) }
     ensures refused { IfErr result (IsOfPieces (outcomes_of (D.holds folder.entry.disk.now) folder.entry.path.now shape.now.evidence shape.now.forms.items) (pieces_of shape.now.evidence) true) }
 {
-    let source = FolderSource {
-        disk: folder.disk,
-        folder: folder.path,
-        shape,
-        watch: folder.watch,
-    };
+    let source = FolderSource { folder, shape };
     let pieces = Pieces {
         source: &source,
         shape: &shape.evidence,
     };
-    match of_source(alloc, threads, pieces, folder.path, first) {
+    match of_source(alloc, threads, pieces, source.folder.path, first) {
         Ok(texts) => Ok(texts),
         Err(why) => Err(refusal_of(alloc, &source, why)),
     }

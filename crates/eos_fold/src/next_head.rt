@@ -11,7 +11,8 @@ use eos_wire::are_bytes;
 use std::alloc::{AllocError, Global};
 
 /// The head of the batch at this byte of the segment named `begin`, where the batch begins at the offset `next`; else why the
-/// front ends there. The batch is read and tested, and only its head is kept.
+/// front ends there. The batch is read and tested, and only its head is kept. Source: Kafka's documentation, "Log", and Message
+/// Format, "Record Batch".
 ///
 /// # Errors
 /// Only want of memory.

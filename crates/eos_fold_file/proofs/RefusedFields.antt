@@ -6,14 +6,17 @@ use Rattle.eos_wire.specs.Crc.{crc32c_of}
 use Rattle.eos_wire.specs.Numbers.{u32_at}
 use Rattle.eos_fold_file.specs.declared.fault.FoldFault.{FoldFault}
 use Rattle.eos_fold_file.specs.declared.fault.FoldFault.TheVariants as faults
+use Rattle.eos_fold_file.specs.declared.file.FoldFile.{FoldFile}
 use Rattle.eos_fold_file.specs.declared.read.Front.{Front}
 use Rattle.eos_fold_file.specs.declared.refusal.FoldField.{FoldField}
 use Rattle.eos_fold_file.specs.declared.refusal.RefusedField.{RefusedField}
 use Rattle.eos_reading.specs.declared.wanted.Wanted.{Wanted}
+use Rattle.eos_fold_file.specs.Faults.{Fails}
 use Rattle.eos_fold_file.specs.Numbers.{present, bytes_from, i32_from, number_from, u64_from}
 use Rattle.eos_fold_file.specs.Files.{record_count, data_count, size_sum}
 use Rattle.eos_fold_file.specs.Reading.{magic_from, version_from, wanted_from, batches_from, front_from, heads_from, epochs_from, kept_from, inside_from, body_from, before, read_fold}
 use Rattle.eos_fold_file.specs.Refusals.{within, signs_in, front_in, body_in, read_in}
+use Rattle.eos_fold_file.specs.steps.Refusals.{FailsIn}
 
 -- without the field
 abbrev without : {X : Type 0} → Result X RefusedField → Result X FoldFault
@@ -95,3 +98,23 @@ refused_is bytes refusal e = sym (fold_same bytes) ∙ ap without e
 pub known_is : (bytes : List ℕ) → (known : Option RefusedField) → IfSome known (λ refusal. read_in bytes ≡ Err refusal) → IfSome known (λ refusal. read_fold bytes ≡ Err refusal.fault)
 known_is bytes (Some refusal) e = refused_is bytes refusal e
 known_is bytes None e = tt
+
+pub fold_said : (bytes : List ℕ) → (f : FoldFile) → read_in bytes ≡ Ok f → read_fold bytes ≡ Ok f
+fold_said bytes f e = sym (fold_same bytes) ∙ ap without e
+
+fails_as : (bytes : List ℕ) → (refusal : RefusedField) → (fault : FoldFault) → refusal.fault ≡ fault → FailsIn fault refusal (read_in bytes) → Fails fault (read_fold bytes)
+fails_as bytes refusal faults.OutOfMemory is e = tt
+fails_as bytes refusal faults.Short is e = refused_is bytes refusal e ∙ ap Err is
+fails_as bytes refusal faults.Magic is e = refused_is bytes refusal e ∙ ap Err is
+fails_as bytes refusal faults.Version is e = refused_is bytes refusal e ∙ ap Err is
+fails_as bytes refusal faults.Roles is e = refused_is bytes refusal e ∙ ap Err is
+fails_as bytes refusal faults.Number is e = refused_is bytes refusal e ∙ ap Err is
+fails_as bytes refusal faults.Head is e = refused_is bytes refusal e ∙ ap Err is
+fails_as bytes refusal faults.Epoch is e = refused_is bytes refusal e ∙ ap Err is
+fails_as bytes refusal faults.Record is e = refused_is bytes refusal e ∙ ap Err is
+fails_as bytes refusal faults.Stop is e = refused_is bytes refusal e ∙ ap Err is
+fails_as bytes refusal faults.Crc is e = refused_is bytes refusal e ∙ ap Err is
+fails_as bytes refusal faults.Trailing is e = refused_is bytes refusal e ∙ ap Err is
+
+pub fails_too : (bytes : List ℕ) → (refusal : RefusedField) → FailsIn refusal.fault refusal (read_in bytes) → Fails refusal.fault (read_fold bytes)
+fails_too bytes refusal e = fails_as bytes refusal refusal.fault refl e

@@ -22,7 +22,7 @@ ghost use Rattle.eos_fold_file.specs.Files.{record_count, data_records, fold_tex
 ghost use Rattle.eos_fold_file.specs.Heads.{head_from};
 ghost use Rattle.eos_fold_file.specs.Legal.{IsLegal};
 ghost use Rattle.eos_fold_file.specs.Numbers.{many_from};
-ghost use Rattle.eos_fold_file.specs.Reading.{magic_from, version_from, wanted_from, batches_from, front_from, heads_from, epochs_from, placed_claims, claims_from, texts_from, kept_from, body_from, read_fold};
+ghost use Rattle.eos_fold_file.specs.Reading.{magic_from, version_from, wanted_from, batches_from, heads_from, epochs_from, placed_claims, claims_from, texts_from, kept_from, read_fold};
 ghost use Rattle.eos_fold_file.specs.steps.Faults.{Gives};
 ghost use Rattle.eos_fold_file.specs.steps.Counts.{GivesCounted, GivesHeads};
 
@@ -32,13 +32,13 @@ use crate::epoch::are_entries;
 use crate::fault::FoldFault;
 use crate::file::{FoldFile, FoldKept};
 use crate::head::FoldHead;
-use crate::number::{read_bytes, read_i32, read_kind, read_number, read_u64};
-use crate::stop::read_inside;
+use crate::number::{read_kind, read_u64};
+use crate::refusal::read_in;
 use crate::texts::read_texts;
 use bytes::Bytes;
 use eos_base::Listed;
 use eos_reading::{EpochEntry, KeptOutput, Wanted};
-use eos_wire::{Cursor, are_bytes, crc32c};
+use eos_wire::{Cursor, are_bytes};
 use std::alloc::Global;
 
 /// The fewest bytes of a head: its batch has 68 bytes or more, and a number above 63 takes two.
@@ -105,28 +105,6 @@ pub(crate) fn read_batches(rest: &mut Cursor<'_>) -> Result<u32, FoldFault>
     ensures { Gives result rest.new (batches_from rest.old) }
 {
     rest.u32().ok_or(FoldFault::Short)
-}
-
-#[tactic(auto, unfolding(crate::specs::Reading::front_from))]
-fn read_front(rest: &mut Cursor<'_>) -> Result<Front, FoldFault>
-    ensures { Gives result rest.new (front_from rest.old) }
-{
-    read_magic(rest)?;
-    read_version(rest)?;
-    let wanted = read_wanted(rest)?;
-    let topic = read_bytes(rest)?;
-    let partition = read_i32(rest)?;
-    let base = read_number(rest)?;
-    let bytes = read_u64(rest)?;
-    let batches = read_batches(rest)?;
-    Ok(Front {
-        wanted,
-        topic,
-        partition,
-        base,
-        bytes,
-        batches,
-    })
 }
 
 /// The number of a batch's data records.
@@ -264,44 +242,15 @@ pub(crate) fn read_kept(
     }
 }
 
-#[tactic(auto, unfolding(crate::specs::Reading::body_from))]
-fn read_body(alloc: Global, rest: &mut Cursor<'_>) -> Result<FoldFile, FoldFault>
-    ensures { Gives result rest.new (body_from rest.old) }
-{
-    let front = read_front(rest)?;
-    let begin = front.base.unsigned_abs();
-    let (heads, counted) = read_heads(alloc, rest, front.base, front.bytes)?;
-    let epochs = read_epochs(alloc, rest, begin, heads.as_slice())?;
-    let kept = read_kept(alloc, rest, front.wanted, counted.records)?;
-    let stop = read_inside(rest, begin, counted.next, counted.size, front.bytes)?;
-    Ok(FoldFile {
-        topic: front.topic,
-        partition: front.partition,
-        base: front.base,
-        bytes: front.bytes,
-        batches: front.batches,
-        heads,
-        epochs,
-        kept,
-        stop,
-    })
-}
-
-#[tactic(auto, unfolding(crate::specs::Reading::read_fold))]
-fn read_fold(alloc: Global, mut rest: Cursor<'_>) -> Result<FoldFile, FoldFault>
+/// What `read_in` says, without the field.
+#[tactic(auto, using(crate::proofs::RefusedFields::fold_said, crate::proofs::RefusedFields::fails_too))]
+fn read_fold(alloc: Global, rest: Cursor<'_>) -> Result<FoldFile, FoldFault>
     ensures { Answers result (read_fold rest.entry) }
 {
-    let bytes = rest.rest();
-    let fold = read_body(alloc, &mut rest)?;
-    let len = bytes.len().saturating_sub(rest.left());
-    let crc = rest.u32().ok_or(FoldFault::Short)?;
-    if crc != crc32c(&bytes[..len]) {
-        return Err(FoldFault::Crc);
+    match read_in(alloc, rest) {
+        Ok(fold) => Ok(fold),
+        Err(refusal) => Err(refusal.fault),
     }
-    if !rest.is_empty() {
-        return Err(FoldFault::Trailing);
-    }
-    Ok(fold)
 }
 
 /// The fold that a file says, and nothing else: its bytes are those that are written for it.

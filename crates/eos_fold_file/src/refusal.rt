@@ -1,4 +1,4 @@
-//! Which field of a file is refused: the file is read once more, and the first field that isn't one is named, with its place.
+//! A file read field by field: the fold that it says, or the first field that isn't one, with its place.
 
 ghost use Rattle.std.specs.Prelude.{◌≡◌, Result, Err, IfSome};
 ghost use Rattle.eos_fold_file.specs.declared.file.FoldFile.{FoldFile};
@@ -151,8 +151,9 @@ fn body_in(alloc: Global, rest: &mut Cursor<'_>) -> Result<FoldFile, RefusedFiel
     }
 }
 
+/// The fold that the bytes say and nothing else, or the first field that is refused.
 #[tactic(auto, unfolding(crate::specs::Refusals::read_in))]
-fn read_in(alloc: Global, mut rest: Cursor<'_>) -> Result<FoldFile, RefusedField>
+pub(crate) fn read_in(alloc: Global, mut rest: Cursor<'_>) -> Result<FoldFile, RefusedField>
     ensures { AnswersIn result (read_in rest.entry) }
 {
     let bytes = rest.rest();

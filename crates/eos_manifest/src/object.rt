@@ -9,14 +9,18 @@ ghost use Rattle.eos_manifest.specs.Objects.{held, count, integer, text_value};
 use serde_json::{Map, Value};
 use std::alloc::{AllocError, Global};
 
-/// A JSON object that is being made.
+/// A JSON object that is being made. A member is put in, or in the place of one of its name.
+///
+/// # Errors
+/// Each call that puts one in refuses for want of memory alone.
 #[derive(Drop)]
 pub struct Object {
-    pub alloc: Global,
+    alloc: Global,
     members: Map<String, Value>,
 }
 
 impl Object {
+    /// An object without a member.
     pub fn new(alloc: Global) -> Object
         ensures { held result ≡ no_members }
     {
@@ -26,7 +30,14 @@ impl Object {
         }
     }
 
-    /// Puts a member in, or in the place of one of its name.
+    /// An object without a member, whose memory is taken where this one's is.
+    pub fn another(&self) -> Object
+        ensures { held result ≡ no_members }
+    {
+        Object::new(self.alloc)
+    }
+
+    /// Puts a member in.
     pub fn put(&mut self, name: &str, value: Value) -> Result<(), AllocError>
         ensures { OnOk result (held self.new ≡ with_member name.now (view value) (held self.old)) }
     {
@@ -35,30 +46,35 @@ impl Object {
         Ok(())
     }
 
+    /// Puts a member for a number in.
     pub fn put_count(&mut self, name: &str, n: u64) -> Result<(), AllocError>
         ensures { OnOk result (held self.new ≡ with_member name.now (count n) (held self.old)) }
     {
         self.put(name, Value::from(n))
     }
 
+    /// Puts a member for a number in.
     pub fn put_size(&mut self, name: &str, n: usize) -> Result<(), AllocError>
         ensures { OnOk result (held self.new ≡ with_member name.now (count n) (held self.old)) }
     {
         self.put_count(name, n as u64)
     }
 
+    /// Puts a member for an integer in, which may be below 0.
     pub fn put_integer(&mut self, name: &str, n: i64) -> Result<(), AllocError>
         ensures { OnOk result (held self.new ≡ with_member name.now (integer n) (held self.old)) }
     {
         self.put(name, Value::from(n))
     }
 
+    /// Puts a member for a boolean in.
     pub fn put_flag(&mut self, name: &str, flag: bool) -> Result<(), AllocError>
         ensures { OnOk result (held self.new ≡ with_member name.now (boolean flag) (held self.old)) }
     {
         self.put(name, Value::Bool(flag))
     }
 
+    /// Puts a member for a text in.
     pub fn put_str(&mut self, name: &str, text: &str) -> Result<(), AllocError>
         ensures { OnOk result (held self.new ≡ with_member name.now (string text.now) (held self.old)) }
     {
@@ -79,6 +95,7 @@ impl Object {
         }
     }
 
+    /// The value that it is.
     pub fn into_value(self) -> Value
         ensures { view result ≡ object (held self) }
     {

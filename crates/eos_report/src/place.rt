@@ -41,7 +41,7 @@ pub(crate) fn put_record(
 pub(crate) fn put_place(out: &mut Object, name: &str, place: &Place) -> Result<(), AllocError>
     ensures { OnOk result (held out.new ≡ with_member name.now (place_value place.now) (held out.old)) }
 {
-    let mut made = Object::new(out.alloc);
+    let mut made = out.another();
     let of = &place.partition;
     put_record(&mut made, of.topic.as_slice(), of.partition, place.offset)?;
     out.put(name, made.into_value())

@@ -18,11 +18,11 @@ impl<'a, D: Disk, W: Watch> FolderSource<'a, D, W> {
     /// The piece of this number is a fold, where its log is to be read again.
     #[tactic(auto, using(crate::proofs::Refused::no_piece, crate::proofs::Refused::fold_at))]
     pub fn needs_log(&self, alloc: Global, piece: u64) -> FolderFault
-        ensures { OutcomeAt (D.holds self.now.disk.now) self.now.folder.now (segments_of self.now.shape.now.evidence.partitions) self.now.shape.now.forms.items piece (Some result) }
+        ensures { OutcomeAt (D.holds self.now.folder.disk.now) self.now.folder.path.now (segments_of self.now.shape.now.evidence.partitions) self.now.shape.now.forms.items piece (Some result) }
     {
         match piece_of(&self.shape.evidence, self.shape.forms.as_slice(), piece) {
             Some((name, form)) => {
-                refused_at(segment_path(alloc, self.folder, name, form), NEEDS_LOG)
+                refused_at(segment_path(alloc, self.folder.path, name, form), NEEDS_LOG)
             }
             None => FolderFault::Limit(Cause::Unknown),
         }
@@ -31,11 +31,11 @@ impl<'a, D: Disk, W: Watch> FolderSource<'a, D, W> {
     /// The partition whose first piece has this number isn't as it was read first. It is told of that piece's file.
     #[tactic(auto, using(crate::proofs::Refused::memory_any, crate::proofs::Refused::changed_any))]
     pub fn changed(&self, alloc: Global, piece: u64) -> FolderFault
-        ensures { IsOfAny (OutcomeAt (D.holds self.now.disk.now) self.now.folder.now (segments_of self.now.shape.now.evidence.partitions) self.now.shape.now.forms.items)
+        ensures { IsOfAny (OutcomeAt (D.holds self.now.folder.disk.now) self.now.folder.path.now (segments_of self.now.shape.now.evidence.partitions) self.now.shape.now.forms.items)
             (length (segments_of self.now.shape.now.evidence.partitions)) result }
     {
         match piece_of(&self.shape.evidence, self.shape.forms.as_slice(), piece) {
-            Some((name, form)) => match segment_path(alloc, self.folder, name, form) {
+            Some((name, form)) => match segment_path(alloc, self.folder.path, name, form) {
                 Ok(path) => FolderFault::CannotRead(
                     path,
                     Cause::Words("its partition changed while the folder was checked"),

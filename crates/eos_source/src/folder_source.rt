@@ -11,14 +11,20 @@ use eos_evidence::{Evidence, ReadFault, Segment};
 use eos_fold_file::Unfit;
 use std::alloc::Global;
 
+/// A folder of a disk.
+#[derive(Drop)]
+pub struct Folder<'a, D, W> {
+    pub disk: &'a D,
+    pub path: &'a str,
+    /// Who is told how far its reading is: of each file that is looked for, and each segment that was read to its end.
+    pub watch: &'a W,
+}
+
 /// A folder of this shape, as `read_shape` gives it.
 #[derive(Drop)]
 pub struct FolderSource<'a, D: Disk, W: Watch> {
-    pub disk: &'a D,
-    pub folder: &'a str,
+    pub folder: Folder<'a, D, W>,
     pub shape: &'a Shape,
-    /// Who is told of each segment that was read to its end.
-    pub watch: &'a W,
 }
 
 /// The name and the form of the piece of this number, where the shape has it.
@@ -47,11 +53,11 @@ impl<'a, D: Disk, W: Watch> Source for FolderSource<'a, D, W> {
     ghost use Rattle.eos_source.specs.FolderRefusals.{OutcomeAt};
     ghost use Rattle.eos_source.specs.Saying.{said_at};
 
-    ghost said = { λ s piece. said_at (D.holds s.disk.now) s.folder.now (segments_of s.shape.now.evidence.partitions) s.shape.now.forms.items piece };
+    ghost said = { λ s piece. said_at (D.holds s.folder.disk.now) s.folder.path.now (segments_of s.shape.now.evidence.partitions) s.shape.now.forms.items piece };
 
     ghost is_log = { λ s piece. is_log_at s.shape.now.forms.items piece };
 
-    ghost outcomes = { λ s piece why. OutcomeAt (D.holds s.disk.now) s.folder.now (segments_of s.shape.now.evidence.partitions) s.shape.now.forms.items piece why };
+    ghost outcomes = { λ s piece why. OutcomeAt (D.holds s.folder.disk.now) s.folder.path.now (segments_of s.shape.now.evidence.partitions) s.shape.now.forms.items piece why };
 
     /// Opens the file of a segment. There is no file of a number that the shape doesn't have, which is answered as a segment too
     /// many.
@@ -65,18 +71,18 @@ impl<'a, D: Disk, W: Watch> Source for FolderSource<'a, D, W> {
         else {
             return Err(FolderFault::Limit(Cause::Unknown));
         };
-        let path = segment_path(alloc, self.folder, name, form)?;
-        let opened = self.disk.open(alloc, path.as_str());
+        let path = segment_path(alloc, self.folder.path, name, form)?;
+        let opened = self.folder.disk.open(alloc, path.as_str());
         let named = NamedFile::of_opened(path, opened)?;
         match form {
             Form::Log => {
                 let NamedFile { file, .. } = named;
-                Ok(Piece::Log(SegmentReader::new(file, self.watch)))
+                Ok(Piece::Log(SegmentReader::new(file, self.folder.watch)))
             }
             Form::Fold => {
                 let bytes = named.read_whole(alloc)?;
-                self.watch.read(bytes.len() as u64);
-                let fold = read_fold(alloc, self.folder, name, &bytes)?;
+                self.folder.watch.read(bytes.len() as u64);
+                let fold = read_fold(alloc, self.folder.path, name, &bytes)?;
                 Ok(Piece::Fold(fold))
             }
         }
@@ -92,7 +98,7 @@ impl<'a, D: Disk, W: Watch> Source for FolderSource<'a, D, W> {
         why: ReadFault,
     ) -> FolderFault {
         match piece_of(&self.shape.evidence, self.shape.forms.as_slice(), piece) {
-            Some((name, form)) => match segment_path(alloc, self.folder, name, form) {
+            Some((name, form)) => match segment_path(alloc, self.folder.path, name, form) {
                 Ok(path) => reader.refusal(alloc, path, why),
                 Err(_) => FolderFault::OutOfMemory,
             },
@@ -104,7 +110,7 @@ impl<'a, D: Disk, W: Watch> Source for FolderSource<'a, D, W> {
     fn unfit(&self, alloc: Global, piece: u64, why: Unfit) -> FolderFault {
         match piece_of(&self.shape.evidence, self.shape.forms.as_slice(), piece) {
             Some((name, form)) => {
-                refused_unfit(segment_path(alloc, self.folder, name, form), why)
+                refused_unfit(segment_path(alloc, self.folder.path, name, form), why)
             }
             None => FolderFault::Limit(Cause::Unknown),
         }

@@ -25,7 +25,7 @@ mod slots;
 mod source;
 mod tickets;
 
-pub use folder_source::FolderSource;
+pub use folder_source::{Folder, FolderSource};
 pub use logs::{KeptLogs, Tally, kept_logs};
 pub use reader::SegmentReader;
 pub use source::{Piece, Source};

@@ -32,6 +32,6 @@ pub use judged::{Judged, Noted, judge_noted, judge_source};
 pub use later::later_faults;
 pub use listed::{all_faults, all_source_faults};
 pub use noting::By;
-pub use pieces::{Folder, Pieces};
+pub use pieces::Pieces;
 pub use refused::refusal_of;
 pub use times::times_each;

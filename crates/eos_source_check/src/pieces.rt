@@ -9,11 +9,3 @@ pub struct Pieces<'a, S> {
     /// The evidence, with no bytes in its segments.
     pub shape: &'a Evidence,
 }
-
-/// A folder of a disk, and who is told how far its reading is.
-#[derive(Clone, Copy)]
-pub struct Folder<'a, D, T> {
-    pub disk: &'a D,
-    pub path: &'a str,
-    pub watch: &'a T,
-}

@@ -15,7 +15,7 @@ pub fn refusal_of<D: Disk, T: Watch>(
     source: &FolderSource<'_, D, T>,
     why: Unlisted<FolderFault>,
 ) -> FolderFault
-    ensures { IsRefusalFor (outcomes_of (D.holds source.now.disk.now) source.now.folder.now source.now.shape.now.evidence source.now.shape.now.forms.items) (pieces_of source.now.shape.now.evidence) why result }
+    ensures { IsRefusalFor (outcomes_of (D.holds source.now.folder.disk.now) source.now.folder.path.now source.now.shape.now.evidence source.now.shape.now.forms.items) (pieces_of source.now.shape.now.evidence) why result }
 {
     match why {
         Unlisted::Refused(fault) => fault,

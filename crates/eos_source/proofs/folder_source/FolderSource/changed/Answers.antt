@@ -9,5 +9,5 @@ pub returns-in-Ok : goal.returns-in-Ok
 returns-in-Ok g c =
     let source = c.args.self.now in
     let form = subst (λ (fs : List Form). slice_get fs c.args.piece ≡ Some c.in-Some.form) c.as_slice.ensures.value c.in-Some.ensures.form in
-    changed_any (g.D.Disk.holds source.disk.now) source.folder.now (segments_of source.shape.now.evidence.partitions) source.shape.now.forms.items c.args.piece c.in-Some.name.now c.in-Some.form
+    changed_any (g.D.Disk.holds source.folder.disk.now) source.folder.path.now (segments_of source.shape.now.evidence.partitions) source.shape.now.forms.items c.args.piece c.in-Some.name.now c.in-Some.form
     c.in-Ok.path _ c.in-Some.ensures.name form c.in-Ok.ensures (λ e. tt)
