@@ -6,7 +6,6 @@ mod FoldersFound
 mod FoldsMore
 mod FoldsRefused
 mod FoundMore
-mod GivenTexts
 mod InitRefused
 mod Likenesses
 mod ManifestParts

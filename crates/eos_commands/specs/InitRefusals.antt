@@ -20,7 +20,8 @@ use Rattle.eos_manifest.specs.AppWords.{app_in_word}
 use Rattle.eos_manifest.specs.Lines.{ends_said_by}
 use Rattle.eos_manifest.specs.Manifests.{first_without, parts_for}
 use Rattle.eos_commands.specs.Copies.{AreFoldersAt, AreAsked, AreRequired, AreEndsOfCopies, EndsAt, is_states, path_of_name}
-use Rattle.eos_commands.specs.Making.{apps_in_words, is_standard, IsTextOf, AreEndsGiven, IsManifestFor}
+use Rattle.eos_disk.specs.GivenTexts.{is_standard, IsTextOf}
+use Rattle.eos_commands.specs.Making.{apps_in_words, AreEndsGiven, IsManifestFor}
 use Rattle.eos_commands.specs.declared.given.Given.{Given}
 use Rattle.eos_commands.specs.declared.init_fault.InitFault.{InitFault}
 use Rattle.eos_commands.specs.declared.init_fault.InitFault.TheVariants.{ThereAlready, App as NoApp, Unread, CannotWrite, Line, NoEnd, Apps, Ends, Limit, OutOfMemory}

@@ -1,9 +1,9 @@
 -- The manifest that is made for a folder of copied logs, and what is then printed.
-use Rattle.std.specs.Prelude.{◌≡◌, ℕ, List, [], ◌∷◌, ◌++◌, length, map, codes, bytes_eq, Bool, true, false, Option, None, Some, option_map, option_and_then, Ok}
+use Rattle.std.specs.Prelude.{◌≡◌, ℕ, List, [], ◌∷◌, ◌++◌, length, map, codes, Option, None, Some, option_map, option_and_then, Ok}
 use Rattle.std.specs.Fmt.{decimal}
-use Rattle.std.specs.Io.KnownBytes.{Consumes, IsAtEnd}
 use Rattle.eos_base.specs.declared.partition_name.PartitionName.{PartitionName}
-use Rattle.eos_disk.specs.Entries.{Entry, HasBytes}
+use Rattle.eos_disk.specs.Entries.{Entry}
+use Rattle.eos_disk.specs.GivenTexts.{is_standard, IsTextOf}
 use Rattle.eos_disk.specs.Putting.{IsPlaced}
 use Rattle.eos_evidence.specs.declared.application.App.{App}
 use Rattle.eos_evidence.specs.declared.ends.End.{End}
@@ -20,14 +20,6 @@ use Rattle.eos_commands.specs.declared.given.Given.{Given}
 abbrev pub apps_in_words : List (List ℕ) → Option (List App)
 apps_in_words [] = Some []
 apps_in_words (word ∷ words) = option_and_then (λ app. option_map (λ apps. app ∷ apps) (apps_in_words words)) (app_in_word word)
-
--- the text of the file of this path; of `-`, which is standard input, all that was left of it
-abbrev pub IsTextOf : Bool → (List ℕ → Entry) → List ℕ → Option (List ℕ) → Option (List ℕ) → List ℕ → Type 0
-IsTextOf true holds path old new text = Consumes old new text × IsAtEnd new
-IsTextOf false holds path old new text = HasBytes (holds path) text
-
-abbrev pub is_standard : List ℕ → Bool
-is_standard path = bytes_eq path (codes "-")
 
 -- the ends that the lines of a file say, or those of the copied logs where no file is given
 abbrev pub AreEndsGiven : Option (List ℕ) → (List ℕ → Entry) → List ℕ → List PartitionName → List PartitionName → Option (List ℕ) → Option (List ℕ) → List End → Type 0

@@ -2,20 +2,18 @@
 
 ghost use Rattle.std.specs.Prelude.{◌≡◌, ℕ, List, map, option_map, None, Some, Ok, IfOk, IfErr, IsSorted, string_bytes};
 ghost use Rattle.eos_base.specs.PartitionNames.{name_cmp};
-ghost use Rattle.eos_disk.specs.Entries.{HasBytes};
 ghost use Rattle.eos_evidence.specs.SpecFields.{accepted};
 ghost use Rattle.eos_manifest.specs.Lines.{ends_said_by};
 ghost use Rattle.eos_manifest.specs.Manifests.{first_without, parts_for};
-ghost use Rattle.eos_commands.specs.InitRefusals.{AreAskedFor, RefusesBy, RefusesAt, RefusesWords, RefusesEnds, RefusesParts, SaysNoEnd};
-ghost use Rattle.eos_commands.specs.Making.{apps_in_words, is_standard, IsTextOf, AreEndsGiven};
+ghost use Rattle.eos_commands.specs.InitRefusals.{AreAskedFor, RefusesWords, RefusesEnds, RefusesParts, SaysNoEnd};
+ghost use Rattle.eos_commands.specs.Making.{apps_in_words, AreEndsGiven};
 
 use crate::copied::Logs;
 use crate::init_fault::InitFault;
 use crate::lines::{Said, has_returns};
-use bytes::Bytes;
 use eos_base::{Listed, PartitionName, Sorted};
-use eos_disk::{Disk, open_file, refusal_of};
-use eos_evidence::{Apps, End, Spec, read_segment};
+use eos_disk::{Disk, read_given};
+use eos_evidence::{Apps, End, Spec};
 use eos_manifest::{EndsFault, ManifestFault, manifest_for, read_app_word, read_ends};
 use std::alloc::Global;
 use std::io::Read;
@@ -75,7 +73,7 @@ pub(crate) fn ends_given<D: Disk, R: Read>(
             has_returns: false,
         });
     };
-    let text = read_text(logs, path, input)?;
+    let text = read_given(logs.alloc, logs.disk, path, input)?;
     said_by(logs.alloc, text.as_slice())
 }
 
@@ -92,42 +90,6 @@ fn said_by(alloc: Global, text: &[u8]) -> Result<Said, InitFault>
         Err(EndsFault::Line(number)) => Err(InitFault::Line(number)),
         Err(EndsFault::OutOfMemory) => Err(InitFault::OutOfMemory),
     }
-}
-
-/// Whether the path names the standard input.
-fn is_standard(path: &str) -> bool
-    ensures { result ≡ is_standard path.now }
-{
-    path.as_bytes() == b"-".as_slice()
-}
-
-/// The bytes of a file, or of the input where it is named `-`.
-fn read_text<D: Disk, R: Read>(
-    logs: &Logs<'_, D>,
-    path: &str,
-    input: &mut R,
-) -> Result<Bytes, InitFault>
-    ensures ok { IfOk result (IsTextOf (is_standard path.now) (D.holds logs.now.disk.now) path.now (R.remaining input.old) (R.remaining input.new)) }
-    ensures refused { IfErr result (RefusesBy (RefusesAt (D.holds logs.now.disk.now) path.now)) }
-{
-    let own = String::from_str(logs.alloc, path)?;
-    if !is_standard(path) {
-        return Ok(read_file(logs.alloc, logs.disk, own)?);
-    }
-    match read_segment(logs.alloc, input) {
-        Ok(bytes) => Ok(bytes),
-        Err(why) => Err(InitFault::Unread(refusal_of(logs.alloc, own, input, why))),
-    }
-}
-
-/// The bytes of the file of this path.
-#[tactic(auto, using(crate::proofs::GivenTexts::left_stands))]
-fn read_file<D: Disk>(alloc: Global, disk: &D, path: String) -> Result<Bytes, InitFault>
-    ensures ok { IfOk result (HasBytes (D.holds disk.now (string_bytes path))) }
-    ensures refused { IfErr result (RefusesBy (RefusesAt (D.holds disk.now) (string_bytes path))) }
-{
-    let named = open_file(alloc, disk, path)?;
-    Ok(named.read_whole(alloc)?)
 }
 
 /// The manifest of these applications, with the ends that it is to have.

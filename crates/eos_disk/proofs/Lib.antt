@@ -1,4 +1,5 @@
 mod Changed
+mod GivenTexts
 pub mod Kept
 pub mod OneShape
 pub mod WholeFiles

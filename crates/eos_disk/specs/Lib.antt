@@ -4,6 +4,7 @@ pub mod Memory
 pub mod Putting
 pub mod steps
 pub mod Causes
+pub mod GivenTexts
 pub mod Names
 pub mod Paths
 pub mod Reading

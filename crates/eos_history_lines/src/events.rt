@@ -169,45 +169,30 @@ fn read_plain_event(word: &str, value: &Value) -> Option<Event>
     ensures { result ≡ plain_event word.now (view value.now) }
 {
     if word == "feed" {
-        read_feed(value)
+        let source = size_in(value, "source")?;
+        Some(Event::Feed { source })
     } else if word == "start" {
-        read_start(value)
+        let application = size_in(value, "application")?;
+        Some(Event::Start { application })
     } else if word == "deliver" {
-        read_delivery(value)
+        let message = count_in(value, "message")?;
+        Some(Event::Deliver { message })
     } else if word == "members" {
         read_members(value)
     } else if word == "coordinator-restart" {
         Some(Event::CoordinatorRestart)
     } else if word == "time-out" {
-        read_time_out(value)
+        let application = size_in(value, "application")?;
+        Some(Event::TimeOut { application })
     } else if word == "write-marker" {
-        read_written_marker(value)
+        let message = count_in(value, "message")?;
+        Some(Event::WriteMarker { message })
     } else if word == "complete" {
-        read_completion(value)
+        let application = size_in(value, "application")?;
+        Some(Event::Complete { application })
     } else {
         read_event_of_session(word, value)
     }
-}
-
-fn read_feed(value: &Value) -> Option<Event>
-    ensures { result ≡ feed_in (view value.now) }
-{
-    let source = size_in(value, "source")?;
-    Some(Event::Feed { source })
-}
-
-fn read_start(value: &Value) -> Option<Event>
-    ensures { result ≡ start_in (view value.now) }
-{
-    let application = size_in(value, "application")?;
-    Some(Event::Start { application })
-}
-
-fn read_delivery(value: &Value) -> Option<Event>
-    ensures { result ≡ deliver_in (view value.now) }
-{
-    let message = count_in(value, "message")?;
-    Some(Event::Deliver { message })
 }
 
 /// Of the first group, where none is named.
@@ -221,27 +206,6 @@ fn read_members(value: &Value) -> Option<Event>
     Some(Event::Members { group })
 }
 
-fn read_time_out(value: &Value) -> Option<Event>
-    ensures { result ≡ time_out_in (view value.now) }
-{
-    let application = size_in(value, "application")?;
-    Some(Event::TimeOut { application })
-}
-
-fn read_written_marker(value: &Value) -> Option<Event>
-    ensures { result ≡ write_marker_in (view value.now) }
-{
-    let message = count_in(value, "message")?;
-    Some(Event::WriteMarker { message })
-}
-
-fn read_completion(value: &Value) -> Option<Event>
-    ensures { result ≡ complete_in (view value.now) }
-{
-    let application = size_in(value, "application")?;
-    Some(Event::Complete { application })
-}
-
 // ---- those of a session
 
 fn read_event_of_session(word: &str, value: &Value) -> Option<Event>
@@ -251,13 +215,16 @@ fn read_event_of_session(word: &str, value: &Value) -> Option<Event>
     if word == "commit" {
         read_commit(session, value)
     } else if word == "end" {
-        read_end(session, value)
+        let kind = kind_called(text_in(value, "kind")?)?;
+        Some(Event::End { session, kind })
     } else if word == "resume" {
         Some(Event::Resume { session })
     } else if word == "fetch" {
-        read_fetch(session, value)
+        let source = size_in(value, "source")?;
+        Some(Event::Fetch { session, source })
     } else if word == "add-partition" {
-        read_addition(session, value)
+        let partition = read_partition(value)?;
+        Some(Event::AddPartition { session, partition })
     } else {
         None
     }
@@ -273,27 +240,6 @@ fn read_commit(session: usize, value: &Value) -> Option<Event>
         source,
         offset,
     })
-}
-
-fn read_end(session: usize, value: &Value) -> Option<Event>
-    ensures { result ≡ end_in session (view value.now) }
-{
-    let kind = kind_called(text_in(value, "kind")?)?;
-    Some(Event::End { session, kind })
-}
-
-fn read_fetch(session: usize, value: &Value) -> Option<Event>
-    ensures { result ≡ fetch_in session (view value.now) }
-{
-    let source = size_in(value, "source")?;
-    Some(Event::Fetch { session, source })
-}
-
-fn read_addition(session: usize, value: &Value) -> Option<Event>
-    ensures { result ≡ add_in session (view value.now) }
-{
-    let partition = read_partition(value)?;
-    Some(Event::AddPartition { session, partition })
 }
 
 fn read_produce(alloc: Global, value: &Value) -> Result<Option<Event>, AllocError>

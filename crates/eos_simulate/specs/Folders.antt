@@ -1,10 +1,10 @@
 -- What `simulate` leaves on a disk: the evidence that its run made, as the files of a new folder and no others, and the files of its history
 -- and of its labels.
-use Rattle.std.specs.Prelude.{◌≡◌, ◌≢◌, ⊤, ℕ, Bool, true, false, List, map, codes, bytes_eq, Option, None, Some, IfSome, is_some}
+use Rattle.std.specs.Prelude.{◌≡◌, ◌≢◌, ⊤, ℕ, Bool, false, List, map, Option, None, Some, IfSome, is_some}
 use Rattle.std.specs.Borrow.{Bor}
-use Rattle.std.specs.Io.KnownBytes.{Consumes, IsAtEnd}
 use Rattle.std.specs.List.{AllZip}
 use Rattle.eos_disk.specs.Entries.{Entry, HasBytes}
+use Rattle.eos_disk.specs.GivenTexts.{is_standard, IsTextOf}
 use Rattle.eos_disk.specs.Changes.{IsMade}
 use Rattle.eos_disk.specs.Putting.{beside, IsBegun}
 use Rattle.eos_disk.specs.Reading.{IsReadWhole}
@@ -75,14 +75,6 @@ pub record IsOfLines (s : Schedule) (stops : Bool) (keeps : WantedTexts) (e : Ev
   pub answered : AllZip IsAsSaid deeds s.lines
   pub totals : IfSome s.tail (FitsTotals deeds)
   pub texts_are : AreTextsOf keeps s.head s.head.config stops deeds texts
-
--- the text of the file of this path; of `-`, which is standard input, all that was left of it
-abbrev pub IsTextOf : Bool → (List ℕ → Entry) → List ℕ → Option (List ℕ) → Option (List ℕ) → List ℕ → Type 0
-IsTextOf true holds path left rest text = Consumes left rest text × IsAtEnd rest
-IsTextOf false holds path left rest text = HasBytes (holds path) text
-
-abbrev pub is_standard : List ℕ → Bool
-is_standard path = bytes_eq path (codes "-")
 
 -- the schedule that this file says
 pub record IsScheduleAt (holds : List ℕ → Entry) (path : List ℕ) (left rest : Option (List ℕ)) (s : Schedule) : Type 0 where

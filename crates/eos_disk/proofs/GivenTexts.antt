@@ -1,12 +1,8 @@
--- What was read of what is given.
-use Rattle.std.proofs.Common.{◌≡◌, ℕ, List, Option, Bool, true, false, IfSome, sym, subst}
+-- What was read of a file that is named, or of the standard input.
+use Rattle.std.proofs.Common.{◌≡◌, ℕ, List, Option, Bool, true, false, sym, subst}
 use Rattle.std.specs.Io.KnownBytes.{Consumes, IsAtEnd}
-use Rattle.eos_disk.specs.Entries.{Entry, HasBytes, Leaves}
-use Rattle.eos_disk.proofs.WholeFiles as whole
-use Rattle.eos_commands.specs.Making.{is_standard, IsTextOf}
-
-pub left_stands : (e : Entry) (left : Option (List ℕ)) (bytes : List ℕ) → Leaves e left → IfSome left (λ xs. bytes ≡ xs) → HasBytes e bytes
-left_stands = whole.left_stands
+use Rattle.eos_disk.specs.Entries.{Entry, HasBytes}
+use Rattle.eos_disk.specs.GivenTexts.{is_standard, IsTextOf}
 
 pub text_of_input : (holds : List ℕ → Entry) (path : List ℕ) (old new : Option (List ℕ)) (text : List ℕ) → is_standard path ≡ true → Consumes old new text → IsAtEnd new
     → IsTextOf (is_standard path) holds path old new text
