@@ -5,7 +5,7 @@ ghost use Rattle.std.specs.Prelude.{◌≡◌, ◌∷◌, ◌++◌, ◌-◌, ◌
 ghost use Rattle.std.specs.List.{All};
 ghost use Rattle.eos_machine.specs.LogIndexes.{IsConfig, application_count};
 ghost use Rattle.eos_machine.specs.World.{opening, fresh, generation_at, generation_of, log_at, with_item, with_generation};
-ghost use Rattle.eos_machine.specs.Logs.{producer_at, unseen};
+ghost use Rattle.eos_machine.specs.Logs.{producer_at};
 ghost use Rattle.eos_machine.specs.Elections.{epoch_at, elected};
 ghost use Rattle.eos_broker.specs.Named.{IsFrom};
 ghost use Rattle.eos_broker.specs.Held.{becomes, held, IsKeptFor, items_of};
@@ -14,6 +14,7 @@ pub mod clients;
 pub mod coordinators;
 mod queue;
 
+use crate::producer::unseen;
 use crate::{PartitionLog, copies};
 use eos_machine::{
     Config, Coordinator, Election, Item, Message, Producer, Session, Status, leader_epoch,
@@ -99,17 +100,6 @@ pub fn fresh(alloc: Global) -> Coordinator
         epoch: 0,
         partitions: copies::none(alloc),
         awaited: copies::none(alloc),
-    }
-}
-
-/// Of which nothing stands in a log.
-fn unseen() -> Producer
-    ensures { result ≡ unseen }
-{
-    Producer {
-        high: 0,
-        last: None,
-        count: 0,
     }
 }
 

@@ -8,3 +8,4 @@ pub mod Ranges
 pub mod Lossless
 mod Refused
 mod LastEntries
+mod Arriving

@@ -1,5 +1,5 @@
 -- A cluster that some list of events leads to: what holds of it, and an event more.
-use Rattle.std.proofs.Common.{◌≡◌, ◌++◌, ◌∷◌, [], ℕ, zero, suc, ◌+◌, ◌<◌, ◌≤◌, ◌^◌, ◌==◌, ◌||◌, false, true, Bool, List, ◌∙◌, sym, ap, subst, arith, refl, Some, inl, inr}
+use Rattle.std.proofs.Common.{◌≡◌, ◌++◌, ◌∷◌, [], ℕ, zero, suc, ◌+◌, ◌<◌, ◌≤◌, ◌^◌, ◌==◌, false, true, Bool, List, ◌∙◌, sym, ap, subst, arith, refl, Some, inl, inr}
 use Rattle.std.specs.Prelude.{slice_get}
 use Rattle.std.specs.List.{All}
 use Rattle.std.proofs.lemmas.Bool.{cases_lt, ne_eqb}
@@ -8,7 +8,7 @@ use Rattle.eos_machine.specs.declared.config.Config.{Config}
 use Rattle.eos_machine.specs.declared.state.Message.{Message}
 use Rattle.eos_machine.specs.declared.state.Session.{Session}
 use Rattle.eos_machine.specs.declared.switches.Switches.{Switches}
-use Rattle.eos_machine.specs.Switching.{none, any_on}
+use Rattle.eos_machine.specs.Switching.{none}
 use Rattle.eos_machine.specs.declared.event.Event.{Event}
 use Rattle.eos_machine.specs.declared.event.Event.TheVariants as events
 use Rattle.eos_machine.specs.declared.event.Reply.{Reply}
@@ -195,20 +195,6 @@ unless_other A B C Full f h = f h
 pub honest_step : (s : Course) (e : Event) (r : Reply) (t : Course) → s.switches ≡ none → IsStepUnder s e r t → IsStep s e r t
 honest_step s e r t n h = unless_other (t ≡ s) (IsTakenUnder s e r t) (IsTaken s e r t) r
     (λ k. (ap (λ (x : Course). x.config) k.0, subst (λ u. (t.world, r) ≡ step_under u s.config s.world e) n k.1)) h
-
-one_or : (a b : Bool) → (a || b) ≡ false → (a ≡ false) × (b ≡ false)
-one_or true b h = absurd cc
-one_or false b h = (refl, h)
-
-pub none_on : (s : Switches) → any_on s ≡ false → s ≡ none
-none_on s h =
-    let a = one_or s.keep_duplicates _ h in
-    let b = one_or s.no_fence _ a.1 in
-    let c = one_or s.no_bump _ b.1 in
-    let d = one_or s.lose_marker _ c.1 in
-    let e = one_or s.swap_marker _ d.1 in
-    let f = one_or s.hide_listing _ e.1 in
-    λ i. record { keep_duplicates = a.0 i; no_fence = b.0 i; no_bump = c.0 i; lose_marker = d.0 i; swap_marker = e.0 i; hide_listing = f.0 i; ignore_generation = f.1 i }
 
 abbrev course : Config → World → Switches → Bool → Course
 course c w u b = record { config = c; world = w; switches = u; honest = b }

@@ -1,5 +1,7 @@
 -- How a cluster that keeps its rules answers a message, by what was made of the message.
 use Rattle.std.proofs.Common.{◌≡◌, ◌≢◌, ◌≤◌, ◌^◌, slice_get, ℕ, Bool, true, false, Option, None, Some, Result, Ok, Err, refl, sym, ap, subst, ◌∙◌}
+use Rattle.std.specs.Bool.{then_some}
+use Rattle.std.specs.Result.{result_err}
 use Rattle.eos_batch.specs.declared.marker.Kind.{Kind}
 use Rattle.eos_machine.specs.declared.config.Config.{Config}
 use Rattle.eos_machine.specs.declared.event.Reply.{Reply}
@@ -16,7 +18,7 @@ use Rattle.eos_machine.specs.declared.event.Event.TheVariants as events
 use Rattle.eos_machine.specs.Switching.{none}
 use Rattle.eos_cluster.specs.Breaches.{kept_by}
 use Rattle.eos_cluster.specs.declared.accept.Request.{Request}
-use Rattle.eos_cluster.specs.steps.Refusing.{is_done, IsRefusal, refusal_of}
+use Rattle.eos_cluster.specs.steps.Refusing.{is_done, IsRefusal}
 use Rattle.eos_cluster.specs.steps.Taken.{judged, ended}
 use Rattle.eos_cluster.proofs.Reaching.{happens_reply, full_reply}
 
@@ -28,12 +30,12 @@ either_done false x y h k = k
 
 -- ---- data
 
-of_judged : (u : Switches) (c : Config) (w : World) (h : Request) (x : Item) (r : Result Bool Reply) → IsRefusal (refusal_of r) (judged u c w h x r).1
+of_judged : (u : Switches) (c : Config) (w : World) (h : Request) (x : Item) (r : Result Bool Reply) → IsRefusal (result_err r) (judged u c w h x r).1
 of_judged u c w h x (Ok t) = refl
 of_judged u c w h x (Err q) = refl
 
-pub by_judged : (u : Switches) (c : Config) (w : World) (h : Request) (x : Item) (r : Result Bool Reply) (o : Option Reply) (a : Answer) → a ≡ judged u c w h x r → o ≡ refusal_of r → IsRefusal o a.1
-by_judged u c w h x r o a e f = subst (λ (p : Option Reply). IsRefusal p a.1) (sym f) (subst (λ (b : Answer). IsRefusal (refusal_of r) b.1) (sym e) (of_judged u c w h x r))
+pub by_judged : (u : Switches) (c : Config) (w : World) (h : Request) (x : Item) (r : Result Bool Reply) (o : Option Reply) (a : Answer) → a ≡ judged u c w h x r → o ≡ result_err r → IsRefusal o a.1
+by_judged u c w h x r o a e f = subst (λ (p : Option Reply). IsRefusal p a.1) (sym f) (subst (λ (b : Answer). IsRefusal (result_err r) b.1) (sym e) (of_judged u c w h x r))
 
 -- ---- ends
 
@@ -46,19 +48,13 @@ by_ended u c w n k r a e = subst (λ (b : Answer). IsRefusal r b.1) (sym e) (of_
 
 -- ---- end markers
 
-the_first : (t : Bool) (x y : Answer) → t ≡ true → (when t x y).1 ≡ x.1
+of_fenced : (t : Bool) (w : World) (y : Answer) → is_done y.1 ≡ true → IsRefusal (then_some t Fenced) (when t (w, Fenced) y).1
 unfolding when
-the_first t x y h = ap (λ (s : Bool). (when s x y).1) h
+of_fenced true w y h = refl
+of_fenced false w y h = h
 
-the_second : (t : Bool) (x y : Answer) → t ≡ false → is_done y.1 ≡ true → is_done (when t x y).1 ≡ true
-unfolding when
-the_second t x y h k = ap (λ (s : Bool). is_done (when s x y).1) h ∙ k
-
-pub marker_refused : (u : Switches) (c : Config) (w : World) (a m : ℕ) (k : Kind) (p : ℕ) → is_marker_fenced u (producer_at w a p) m ≡ true → (deliver_marker u c w a m k p).1 ≡ Fenced
-marker_refused u c w a m k p h = the_first _ _ _ h
-
-pub marker_taken : (u : Switches) (c : Config) (w : World) (a m : ℕ) (k : Kind) (p : ℕ) → is_marker_fenced u (producer_at w a p) m ≡ false → is_done (deliver_marker u c w a m k p).1 ≡ true
-marker_taken u c w a m k p h = the_second _ _ _ h (either_done _ _ _ refl (either_done _ _ _ refl refl))
+pub by_fenced : (u : Switches) (c : Config) (w : World) (a m : ℕ) (k : Kind) (p : ℕ) (o : Option Reply) → o ≡ then_some (is_marker_fenced u (producer_at w a p) m) Fenced → IsRefusal o (deliver_marker u c w a m k p).1
+by_fenced u c w a m k p o e = subst (λ (q : Option Reply). IsRefusal q (deliver_marker u c w a m k p).1) (sym e) (of_fenced (is_marker_fenced u (producer_at w a p) m) w _ (either_done _ _ _ refl (either_done _ _ _ refl refl)))
 
 -- ---- a message of a cluster
 

@@ -2,10 +2,11 @@
 
 ghost use Rattle.std.specs.Prelude.{◌≡◌, ◌+◌, ◌≤◌, OnOk, OnErr, IfOk};
 ghost use Rattle.eos_machine.specs.LogIndexes.{application_count};
+ghost use Rattle.eos_machine.specs.World.{coord_at};
 ghost use Rattle.eos_machine.specs.Deliveries.{with_partition};
-ghost use Rattle.eos_cluster.specs.steps.Taken.{fence, taken, IsFromIf};
+ghost use Rattle.eos_cluster.specs.steps.Taken.{admitted, fence, taken, IsFromIf};
 
-use eos_broker::answers::is_ongoing;
+use eos_broker::answers::{is_ongoing, is_prepare};
 use eos_broker::{Store, copies};
 use eos_machine::{Item, Reply, Status, Switches};
 use std::alloc::AllocError;
@@ -48,6 +49,24 @@ pub(crate) fn fence(switches: Switches) -> Result<bool, Reply>
         return Ok(false);
     }
     Err(Reply::Fenced)
+}
+
+/// What the coordinator makes of data: whether its transaction lists their partition, or the refusal.
+pub(crate) fn admit(
+    store: &Store,
+    switches: Switches,
+    application: usize,
+    epoch: u16,
+) -> Result<bool, Reply>
+    ensures { result ≡ admitted switches (coord_at store.now.world application) epoch }
+{
+    if !store.is_current(application, epoch) {
+        return fence(switches);
+    }
+    if is_prepare(store.status(application)) {
+        return Err(Reply::Busy);
+    }
+    Ok(true)
 }
 
 /// The partition at a place belongs to the transaction.

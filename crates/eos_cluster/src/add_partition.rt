@@ -50,7 +50,6 @@ pub(crate) fn add_partition(
         return Ok(Reply::Unknown);
     };
     let application = session.application;
-    let epoch = session.epoch;
     let config = store.config();
     if !is_target(config, partition) {
         return Ok(Reply::Unknown);
@@ -58,7 +57,7 @@ pub(crate) fn add_partition(
     if !is_active(session) {
         return Ok(Reply::WrongState);
     }
-    if !store.is_current(application, epoch) {
+    if !store.is_current(application, session.epoch) {
         return Ok(Reply::Fenced);
     }
     if is_prepare(store.status(application)) {

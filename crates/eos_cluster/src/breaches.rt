@@ -1,18 +1,15 @@
 //! Which rules are broken where a message is taken.
 
-ghost use Rattle.std.specs.Prelude.{◌≡◌, ◌<◌, ℕ, slice_get, Option, Some};
+ghost use Rattle.std.specs.Prelude.{◌≡◌, slice_get, Some};
 ghost use Rattle.eos_machine.specs.declared.event.Reply.{Reply};
-ghost use Rattle.eos_machine.specs.declared.item.Claim.{Claim};
-ghost use Rattle.eos_machine.specs.LogIndexes.{IsConfig, application_count, offsets_index};
+ghost use Rattle.eos_machine.specs.LogIndexes.{IsConfig};
 ghost use Rattle.eos_machine.specs.Formed.{Names};
-ghost use Rattle.eos_machine.specs.Deliveries.{deliver, deliver_output, deliver_offset, deliver_end, deliver_marker};
+ghost use Rattle.eos_machine.specs.Deliveries.{deliver};
 ghost use Rattle.eos_machine.specs.Switching.{none};
 ghost use Rattle.eos_broker.specs.Named.{IsNamed};
 ghost use Rattle.eos_machine.specs.Machine.{reread};
-ghost use Rattle.eos_machine.specs.World.{state_of};
 ghost use Rattle.eos_cluster.specs.Breaches.{is_marker, kept_by, is_unlisted, altered_marker, altered, log_of};
-ghost use Rattle.eos_cluster.specs.steps.Refusing.{IsRefusal, refusal_of};
-ghost use Rattle.eos_cluster.specs.steps.Taken.{IsData};
+ghost use Rattle.eos_cluster.specs.steps.Refusing.{IsRefusal};
 
 use crate::accept::Request;
 use crate::deliver_end::end_refusal;
@@ -20,61 +17,18 @@ use crate::deliver_marker::{EndMarker, is_marker_fenced};
 use crate::deliver_offset::judge_offset;
 use crate::deliver_output::judge_output;
 use crate::restarted::last_said;
-use eos_batch::Kind;
 use eos_broker::answers::waits_for;
 use eos_broker::log_indexes::{OFFSETS_INDEX, is_odd_output, written_index};
 use eos_broker::{Store, copies};
-use eos_machine::{Config, Entry, Message, Reply, Switch, Switches};
+use eos_machine::{Config, Message, Reply, Switch, Switches};
 
 // ---- how a cluster that keeps its rules refuses a message
 
-fn refusal_of(judged: Result<bool, Reply>) -> Option<Reply>
-    ensures { result ≡ refusal_of judged }
-{
-    match judged {
-        Ok(_) => None,
-        Err(refusal) => Some(refusal),
-    }
-}
-
-fn output_refusal(store: &Store, request: Request, sequence: u32) -> Option<Reply>
-    requires { request.application < application_count store.now.config }
-    ensures { (x : Option Claim) (v : ℕ)
-        → IsRefusal result (deliver_output none store.now.config store.now.world request.number request.application request.epoch request.place sequence x v).1 }
-{
-    refusal_of(judge_output(store, Switches::none(), request, sequence))
-}
-
-fn offset_refusal(store: &Store, request: Request, generation: u64) -> Option<Reply>
-    requires application { request.application < application_count store.now.config }
-    requires place { request.place ≡ offsets_index }
-    ensures { (q : ℕ) (v : Option ℕ)
-        → IsRefusal result (deliver_offset none store.now.config store.now.world request.number request.application request.epoch generation q v).1 }
-{
-    refusal_of(judge_offset(store, Switches::none(), request, generation))
-}
-
-fn ending_refusal(store: &Store, application: usize, epoch: u16, kind: Kind) -> Option<Reply>
-    ensures { IsRefusal result (deliver_end none store.now.config store.now.world application epoch kind).1 }
-{
-    end_refusal(store, application, epoch, kind)
-}
-
-fn marker_refusal(store: &Store, marker: EndMarker) -> Option<Reply>
-    requires { marker.application < application_count store.now.config }
-    ensures { IsRefusal result (deliver_marker none store.now.config store.now.world marker.application marker.epoch marker.kind marker.place).1 }
-{
-    if is_marker_fenced(store, Switches::none(), marker) {
-        return Some(Reply::Fenced);
-    }
-    None
-}
-
-fn data_refusal(store: &Store, number: u64, message: &Message) -> Option<Reply>
-    requires data { IsData message.now }
+fn message_refusal(store: &Store, number: u64, message: &Message) -> Option<Reply>
     requires named { Names store.now.config message.now }
     ensures { IsRefusal result (deliver none store.now.config store.now.world number (Some message.now)).1 }
 {
+    let honest = Switches::none();
     match message {
         Message::Output {
             application,
@@ -85,7 +39,7 @@ fn data_refusal(store: &Store, number: u64, message: &Message) -> Option<Reply>
         } => {
             let place = written_index(store.config(), *application, *partition);
             let request = Request::new(number, *application, *epoch, place);
-            output_refusal(store, request, *sequence)
+            judge_output(store, honest, request, *sequence).err()
         }
         Message::Offset {
             application,
@@ -94,36 +48,21 @@ fn data_refusal(store: &Store, number: u64, message: &Message) -> Option<Reply>
             ..
         } => {
             let request = Request::new(number, *application, *epoch, OFFSETS_INDEX);
-            offset_refusal(store, request, *generation)
+            judge_offset(store, honest, request, *generation).err()
         }
-        Message::End { .. } | Message::Marker { .. } => unreachable!(),
-    }
-}
-
-fn message_refusal(store: &Store, number: u64, message: &Message) -> Option<Reply>
-    requires named { Names store.now.config message.now }
-    ensures { IsRefusal result (deliver none store.now.config store.now.world number (Some message.now)).1 }
-{
-    match message {
-        Message::Output { .. } | Message::Offset { .. } => data_refusal(store, number, message),
         Message::End {
             application,
             epoch,
             kind,
-        } => ending_refusal(store, *application, *epoch, *kind),
+        } => end_refusal(store, *application, *epoch, *kind),
         Message::Marker {
             application,
             epoch,
             kind,
             place,
         } => {
-            let marker = EndMarker {
-                application: *application,
-                epoch: *epoch,
-                kind: *kind,
-                place: *place,
-            };
-            marker_refusal(store, marker)
+            let marker = EndMarker::new(*application, *epoch, *kind, *place);
+            is_marker_fenced(store, honest, marker).then_some(Reply::Fenced)
         }
     }
 }
@@ -184,21 +123,16 @@ fn kept_if(marker: bool, refusal: Option<Reply>) -> Switches
     }
 }
 
-/// Whether a record decides the transaction of an end marker, and doesn't list its partition.
-fn omits(entry: &Entry, marker: EndMarker) -> bool
-    ensures { result ≡ is_unlisted (state_of entry.now) marker.epoch marker.kind marker.place }
-{
-    waits_for(entry.status, entry.epoch, marker.epoch, marker.kind)
-        && !copies::has(marker.place, entry.partitions.as_slice())
-}
-
-/// The same of the last record of its application.
+/// Whether the last record of an end marker's application decides its transaction, and doesn't list its partition.
 fn is_unlisted(store: &Store, marker: EndMarker) -> bool
     ensures { result ≡ is_unlisted (reread store.now.config store.now.world marker.application) marker.epoch marker.kind marker.place }
 {
     match last_said(store, marker.application) {
         None => false,
-        Some(entry) => omits(entry, marker),
+        Some(entry) => {
+            waits_for(entry.status, entry.epoch, marker.epoch, marker.kind)
+                && !copies::has(marker.place, entry.partitions.as_slice())
+        }
     }
 }
 
@@ -246,12 +180,7 @@ fn altered(store: &Store, switches: Switches, message: &Message, kept: Switches)
             kind,
             place,
         } => {
-            let marker = EndMarker {
-                application: *application,
-                epoch: *epoch,
-                kind: *kind,
-                place: *place,
-            };
+            let marker = EndMarker::new(*application, *epoch, *kind, *place);
             altered_marker(store, switches, marker, kept)
         }
     }

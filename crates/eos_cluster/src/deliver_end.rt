@@ -112,7 +112,7 @@ fn end_at_once(
 }
 
 /// Decides a transaction with these partitions, whose end markers are on their way then.
-fn end_by_markers(
+pub(crate) fn end_by_markers(
     store: &mut Store,
     switches: Switches,
     application: usize,

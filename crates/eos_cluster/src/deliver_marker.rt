@@ -1,12 +1,12 @@
 //! An end marker arrives at a broker.
 
-ghost use Rattle.std.specs.Prelude.{◌≡◌, ◌==◌, ◌&&◌, ◌||◌, ◌+◌, ◌-◌, ◌≤◌, ◌<◌, [], length, OnOk, OnErr, IfOk};
+ghost use Rattle.std.specs.Prelude.{◌≡◌, ◌==◌, ◌&&◌, ◌||◌, ◌+◌, ◌-◌, ◌≤◌, ◌<◌, true, false, [], length, OnOk, OnErr, IfOk};
 ghost use Rattle.eos_machine.specs.LogIndexes.{application_count, IsConfig};
 ghost use Rattle.eos_machine.specs.World.{coord_at};
 ghost use Rattle.eos_machine.specs.Logs.{producer_at};
 ghost use Rattle.eos_machine.specs.Rules.{is_marker_fenced, marker_epoch, marker_kind, marker_of, other_kind};
 ghost use Rattle.eos_machine.specs.Tests.{has, waits_for};
-ghost use Rattle.eos_machine.specs.Deliveries.{deliver_marker, marked};
+ghost use Rattle.eos_machine.specs.Deliveries.{append_marker, deliver_marker, marked, ticked};
 ghost use Rattle.eos_cluster.specs.steps.Taken.{settled};
 
 use eos_batch::Kind;
@@ -25,6 +25,19 @@ pub struct EndMarker {
     pub place: usize,
 }
 
+impl EndMarker {
+    pub(crate) fn new(application: usize, epoch: u16, kind: Kind, place: usize) -> EndMarker
+        ensures { result ≡ record { application = application; epoch = epoch; kind = kind; place = place } }
+    {
+        EndMarker {
+            application,
+            epoch,
+            kind,
+            place,
+        }
+    }
+}
+
 /// Whether a broker refuses an end marker.
 pub(crate) fn is_marker_fenced(store: &Store, switches: Switches, marker: EndMarker) -> bool
     requires { marker.application < application_count store.now.config }
@@ -38,7 +51,7 @@ pub(crate) fn is_marker_fenced(store: &Store, switches: Switches, marker: EndMar
 }
 
 /// Whether the coordinator waits for an end marker.
-pub(crate) fn awaits_marker(store: &Store, marker: EndMarker) -> bool
+fn awaits_marker(store: &Store, marker: EndMarker) -> bool
     ensures { result ≡ (waits_for (coord_at store.now.world marker.application).status (coord_at store.now.world marker.application).epoch marker.epoch marker.kind && has marker.place (coord_at store.now.world marker.application).awaited) }
 {
     let EndMarker {
@@ -82,7 +95,7 @@ fn marker_kind(switches: Switches, config: Config, place: usize, kind: Kind) -> 
 }
 
 /// The item of an end marker that is appended.
-pub(crate) fn marker_of(store: &Store, switches: Switches, marker: EndMarker) -> Item
+fn marker_of(store: &Store, switches: Switches, marker: EndMarker) -> Item
     ensures { result ≡ marker_of switches store.now.config marker.application marker.epoch marker.kind marker.place store.now.world.events }
 {
     Item::Marker {
@@ -123,12 +136,24 @@ fn put_awaited(store: &mut Store, switches: Switches, marker: EndMarker) -> Resu
     Ok(())
 }
 
+/// Appends an end marker that the coordinator waits for, which ticks it off and no more.
+fn put_ticked(store: &mut Store, switches: Switches, marker: EndMarker) -> Result<(), AllocError>
+    ensures ok { OnOk result (store.new.world ≡ ticked switches store.old.config store.old.world marker.application marker.epoch marker.kind marker.place) }
+    ensures err { OnErr result (store.new.world ≡ store.old.world) }
+    ensures config { store.new.config ≡ store.old.config }
+{
+    store.make_room(1)?;
+    let left = store.others_awaited(marker.application, marker.place)?;
+    if !switches.lose_marker {
+        let item = marker_of(store, switches, marker);
+        store.put(marker.place, item);
+    }
+    store.tick_off(marker.application, marker.place, left);
+    Ok(())
+}
+
 /// Appends an end marker that nobody waits for.
-pub(crate) fn put_alone(
-    store: &mut Store,
-    switches: Switches,
-    marker: EndMarker,
-) -> Result<(), AllocError>
+fn put_alone(store: &mut Store, switches: Switches, marker: EndMarker) -> Result<(), AllocError>
     ensures ok { OnOk result (store.new.world ≡ marked switches store.old.config store.old.world marker.application marker.epoch marker.kind marker.place) }
     ensures err { OnErr result (store.new.world ≡ store.old.world) }
     ensures config { store.new.config ≡ store.old.config }
@@ -141,16 +166,18 @@ pub(crate) fn put_alone(
     Ok(())
 }
 
-/// An end marker arrives at a broker.
+/// An end marker arrives at a broker. Unless it completes its transaction, that stays prepared, even where it was the last one.
 #[tactic(auto, unfolding(eos_machine::specs::Answers::when))]
-pub(crate) fn deliver_marker(
+pub(crate) fn take_marker(
     store: &mut Store,
     switches: Switches,
     marker: EndMarker,
+    completes: bool,
 ) -> Result<Reply, AllocError>
     requires named { marker.application < application_count store.old.config }
-    requires there { marker.application < length store.old.world.coordinators }
-    ensures ok { IfOk result (λ r. (store.new.world, r) ≡ deliver_marker switches store.old.config store.old.world marker.application marker.epoch marker.kind marker.place) }
+    requires there { completes ≡ true → marker.application < length store.old.world.coordinators }
+    ensures completed { completes ≡ true → IfOk result (λ r. (store.new.world, r) ≡ deliver_marker switches store.old.config store.old.world marker.application marker.epoch marker.kind marker.place) }
+    ensures written { completes ≡ false → IfOk result (λ r. (store.new.world, r) ≡ append_marker switches store.old.config store.old.world marker.application marker.epoch marker.kind marker.place) }
     ensures err { OnErr result (store.new.world ≡ store.old.world) }
     ensures config { store.new.config ≡ store.old.config }
 {
@@ -158,10 +185,12 @@ pub(crate) fn deliver_marker(
         return Ok(Reply::Fenced);
     }
     let offset = store.log(marker.place).len() as u64;
-    if awaits_marker(store, marker) {
+    if !awaits_marker(store, marker) {
+        put_alone(store, switches, marker)?;
+    } else if completes {
         put_awaited(store, switches, marker)?;
     } else {
-        put_alone(store, switches, marker)?;
+        put_ticked(store, switches, marker)?;
     }
     Ok(Reply::Done(offset))
 }

@@ -7,9 +7,8 @@ ghost use Rattle.eos_machine.specs.Rules.{is_stale};
 ghost use Rattle.eos_machine.specs.Deliveries.{deliver_offset};
 ghost use Rattle.eos_cluster.specs.steps.Taken.{judged, taken, IsFromIf};
 
-use crate::accept::{Arrival, Request, fence};
+use crate::accept::{Arrival, Request, admit, fence};
 use eos_broker::Store;
-use eos_broker::answers::is_prepare;
 use eos_broker::log_indexes::OFFSETS_INDEX;
 use eos_machine::{Item, Reply, Switches};
 
@@ -68,13 +67,7 @@ pub(crate) fn judge_offset(
     if epoch < store.producer(application, OFFSETS_INDEX).high {
         return fence(switches);
     }
-    if !store.is_current(application, epoch) {
-        return fence(switches);
-    }
-    if is_prepare(store.status(application)) {
-        return Err(Reply::Busy);
-    }
-    Ok(true)
+    admit(store, switches, application, epoch)
 }
 
 /// What becomes of an offset: the batch that is appended, or the refusal.

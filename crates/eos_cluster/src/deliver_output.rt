@@ -9,8 +9,7 @@ ghost use Rattle.eos_machine.specs.Rules.{is_repeated, is_out_of_order};
 ghost use Rattle.eos_machine.specs.Deliveries.{deliver_output};
 ghost use Rattle.eos_cluster.specs.steps.Taken.{judged, taken, IsFromIf};
 
-use crate::accept::{Arrival, Request, fence};
-use eos_broker::answers::is_prepare;
+use crate::accept::{Arrival, Request, admit, fence};
 use eos_broker::{Store, is_epoch, next_sequence};
 use eos_machine::{Claim, Item, Producer, Reply, Switches};
 use std::alloc::AllocError;
@@ -80,13 +79,7 @@ pub(crate) fn judge_output(
     if is_out_of_order(switches, producer, epoch, sequence) {
         return Err(Reply::OutOfOrder);
     }
-    if !store.is_current(application, epoch) {
-        return fence(switches);
-    }
-    if is_prepare(store.status(application)) {
-        return Err(Reply::Busy);
-    }
-    Ok(true)
+    admit(store, switches, application, epoch)
 }
 
 /// What becomes of a record: the batch that is appended, or the refusal.

@@ -10,7 +10,7 @@ ghost use Rattle.eos_cluster.specs.steps.Taken.{taken, IsData, IsFromIf};
 
 use crate::accept::{Arrival, Request, take_in};
 use crate::deliver_end::deliver_end;
-use crate::deliver_marker::{EndMarker, deliver_marker};
+use crate::deliver_marker::{EndMarker, take_marker};
 use crate::deliver_offset::{OffsetCommit, offset_arrival};
 use crate::deliver_output::{SentRecord, output_arrival};
 use eos_broker::Store;
@@ -93,13 +93,8 @@ pub fn deliver(store: &mut Store, switches: Switches, number: u64) -> Result<Rep
             kind,
             place,
         } => {
-            let marker = EndMarker {
-                application: *application,
-                epoch: *epoch,
-                kind: *kind,
-                place: *place,
-            };
-            deliver_marker(store, switches, marker)
+            let marker = EndMarker::new(*application, *epoch, *kind, *place);
+            take_marker(store, switches, marker, true)
         }
     }
 }

@@ -146,11 +146,10 @@ fn read_back(store: &Store, source: usize) -> Result<Fetched, AllocError>
 pub fn fetch(store: &Store, number: usize, source: usize) -> Result<Reply, AllocError>
     ensures { IfOk result (λ r. (store.now.world, r) ≡ fetch store.now.config store.now.world source (slice_get store.now.world.sessions number)) }
 {
-    let config = store.config();
     let Some(session) = store.session(number) else {
         return Ok(Reply::Unknown);
     };
-    if !is_source(config, session.application, source) {
+    if !is_source(store.config(), session.application, source) {
         return Ok(Reply::Unknown);
     }
     if session.generation != store.generation_of(session.application) {

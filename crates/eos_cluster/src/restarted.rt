@@ -13,7 +13,7 @@ use crate::deliver_marker::EndMarker;
 use eos_broker::log_indexes::txn_index;
 use eos_broker::{Store, copies, fresh, state_of};
 use eos_machine::{Coordinator, Entry, Item, Message, Status};
-use std::alloc::{AllocError, Global};
+use std::alloc::AllocError;
 
 /// What an item says of an application's transaction.
 fn entry_of(item: &Item, application: usize) -> Option<&Entry>
@@ -55,16 +55,6 @@ pub(crate) fn last_said(store: &Store, application: usize) -> Option<&Entry>
     last_entry(log, application)
 }
 
-/// The state that a record leaves, if there is one.
-fn state_said(alloc: Global, found: Option<&Entry>) -> Result<Coordinator, AllocError>
-    ensures { IfOk result (λ s. s ≡ said_by found.entry fresh) }
-{
-    match found {
-        Some(entry) => state_of(entry.status, entry.epoch, copies::copy(&entry.partitions)?),
-        None => Ok(fresh(alloc)),
-    }
-}
-
 /// Adds the end markers that a state waits for.
 fn push_due(
     due: &mut Vec<EndMarker>,
@@ -75,21 +65,20 @@ fn push_due(
 {
     if let Status::Prepare(kind) = state.status {
         for place in state.partitions.as_slice() {
-            due.push(EndMarker {
-                application,
-                epoch: state.epoch,
-                kind,
-                place: *place,
-            })?;
+            due.push(EndMarker::new(application, state.epoch, kind, *place))?;
         }
     }
     Ok(())
 }
 
+/// The state that the last record of an application leaves, if there is one.
 fn reread(store: &Store, application: usize) -> Result<Coordinator, AllocError>
     ensures { IfOk result (λ s. s ≡ reread store.now.config store.now.world application) }
 {
-    state_said(store.alloc(), last_said(store, application))
+    match last_said(store, application) {
+        Some(entry) => state_of(entry.status, entry.epoch, copies::copy(&entry.partitions)?),
+        None => Ok(fresh(store.alloc())),
+    }
 }
 
 fn queue_due(store: &mut Store, due: &[EndMarker])

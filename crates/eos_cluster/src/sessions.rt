@@ -111,11 +111,10 @@ fn commit_offset(
     ensures err { OnErr result (store.new.world ≡ store.old.world) }
     ensures config { store.new.config ≡ store.old.config }
 {
-    let config = store.config();
     let Some(session) = store.session(number) else {
         return Ok(Reply::Unknown);
     };
-    if !is_source(config, session.application, source) {
+    if !is_source(store.config(), session.application, source) {
         return Ok(Reply::Unknown);
     }
     if !is_active(session) {

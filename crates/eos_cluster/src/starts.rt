@@ -1,10 +1,10 @@
 //! Inputs that come in, and sessions that begin.
 
-ghost use Rattle.std.specs.Prelude.{◌≡◌, ◌+◌, ◌-◌, ◌≤◌, if◌then◌else◌, OnOk, OnErr, IfOk};
-ghost use Rattle.eos_batch.specs.declared.marker.Kind.TheVariants.{Abort};
-ghost use Rattle.eos_machine.specs.World.{coord_at, prepared};
+ghost use Rattle.std.specs.Prelude.{◌≡◌, ◌+◌, ◌-◌, ◌≤◌, if◌then◌else◌, OnErr, IfOk};
+ghost use Rattle.eos_machine.specs.World.{coord_at};
 ghost use Rattle.eos_machine.specs.Machine.{feed, start, start_session};
 
+use crate::deliver_end::end_by_markers;
 use eos_base::Listed;
 use eos_batch::Kind;
 use eos_broker::answers::{is_ongoing, is_prepare};
@@ -66,18 +66,6 @@ fn start_session(
     Ok(Reply::Done(number))
 }
 
-/// Aborts an open transaction.
-fn abort(store: &mut Store, switches: Switches, application: usize) -> Result<(), AllocError>
-    requires { (coord_at store.old.world application).epoch ≤ 32767 }
-    ensures ok { OnOk result (store.new.world ≡ prepared switches store.old.config store.old.world application Abort (coord_at store.old.world application).partitions) }
-    ensures err { OnErr result (store.new.world ≡ store.old.world) }
-    ensures config { store.new.config ≡ store.old.config }
-{
-    let partitions = store.partitions(application)?;
-    store.make_room(partitions.as_slice().len() + 1)?;
-    store.prepare(switches, application, Kind::Abort, partitions)
-}
-
 /// The epoch of an application's next session.
 fn next_epoch(store: &Store, application: usize) -> u16
     requires { (coord_at store.now.world application).epoch ≤ 32767 }
@@ -107,7 +95,8 @@ pub fn start(store: &mut Store, switches: Switches, application: usize) -> Resul
         return Ok(Reply::Busy);
     }
     if is_ongoing(status) {
-        abort(store, switches, application)?;
+        let partitions = store.partitions(application)?;
+        end_by_markers(store, switches, application, Kind::Abort, partitions)?;
         return Ok(Reply::Busy);
     }
     start_session(store, switches, application, next_epoch(store, application))

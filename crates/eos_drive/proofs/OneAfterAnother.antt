@@ -3,7 +3,7 @@ use Rattle.std.proofs.Common.{◌≡◌, List, [], ◌∷◌, ◌++◌, ◌∙�
 use Rattle.std.proofs.lemmas.List.{append-nil}
 use Rattle.eos_cluster.specs.Courses.{Course}
 use Rattle.eos_drive.specs.declared.deed.Deed.{Deed}
-use Rattle.eos_drive.specs.Driven.{after_deed, after, AreAnswered, Leads, IsDriven, IsKept}
+use Rattle.eos_drive.specs.Driven.{after_deed, after, AreAnswered, Leads, IsKept}
 
 after_joined : (s : Course) (ds es : List Deed) → after s (ds ++ es) ≡ after (after s ds) es
 after_joined s [] es = refl
@@ -19,9 +19,6 @@ leads_joined s t u ds es h k = record {
   answers = answers_joined s ds es h.answers (subst (λ (x : Course). AreAnswered x es) h.state k.answers);
 }
 
-pub driven_on : (s t u : Course) → IsDriven s t → IsDriven t u → IsDriven s u
-driven_on s t u h k = record { deeds = h.deeds ++ k.deeds; leads = leads_joined s t u h.deeds k.deeds h.leads k.leads }
-
 pub kept_on : (s t u : Course) (before now after : List Deed) → IsKept s before t now → IsKept t now u after → IsKept s before u after
 kept_on s t u before now after h k = record {
   since = h.since ++ k.since;
@@ -32,10 +29,3 @@ kept_on s t u before now after h k = record {
 -- nothing is done
 pub kept_still : (s : Course) (now : List Deed) → IsKept s now s now
 kept_still s now = record { since = []; leads = record { state = refl; answers = tt }; kept = sym (append-nil now) }
-
-pub kept_drives : (s t : Course) (before now : List Deed) → IsKept s before t now → IsDriven s t
-kept_drives s t before now h = record { deeds = h.since; leads = h.leads }
-
--- a history that began with nothing in it: all of its deeds lead there
-pub kept_leads : (s t : Course) (now : List Deed) → IsKept s [] t now → Leads s now t
-kept_leads s t now h = subst (λ (x : List Deed). Leads s x t) (sym h.kept) h.leads

@@ -1,4 +1,4 @@
--- The replay of one event more, and that of none.
+-- The replay of one event more.
 use Rattle.std.proofs.Common.{◌≡◌, ◌++◌, ◌∷◌, [], ℕ, ◌+◌, Bool, true, List, length, ◌∙◌, sym, ap, subst, refl, arith, if◌then◌else◌}
 use Rattle.std.proofs.lemmas.List.{map-append, length-append}
 use Rattle.std.proofs.lemmas.List.FromFn.{map-range_with_len_more}
@@ -12,7 +12,8 @@ use Rattle.eos_machine.specs.Machine.{step, world_after, replies}
 use Rattle.eos_cluster.specs.Courses.{Course, IsTaken, IsStep, IsCounted}
 use Rattle.eos_drive.specs.declared.finished.Entry.{Entry}
 use Rattle.eos_drive.specs.declared.finished.Call.{Call}
-use Rattle.eos_drive.specs.Replay.{IsReplay, events_of, is_stored, PassView, new_pass, new_passes}
+use Rattle.eos_drive.specs.Driven.{is_taken}
+use Rattle.eos_drive.specs.Replay.{IsReplay, events_of, PassView, new_pass, new_passes}
 use Rattle.eos_drive.specs.steps.Replay.{recorded}
 
 -- ---- an event more
@@ -57,7 +58,7 @@ replay_answered s t es n e OutOfMemory h a m = same_replay s t es h a
 replay_answered s t es n e Full h a m = same_replay s t es h m.0
 
 -- it is counted
-pub counted_one : (es now : List Entry) (n : ℕ) (e : Event) (r : Reply) (t u : ℕ) → is_stored r ≡ true → now ≡ recorded es n e r → t ≡ length es → u ≡ t + 1 → u ≡ length now
+pub counted_one : (es now : List Entry) (n : ℕ) (e : Event) (r : Reply) (t u : ℕ) → is_taken r ≡ true → now ≡ recorded es n e r → t ≡ length es → u ≡ t + 1 → u ≡ length now
 counted_one es now n e r t u stored is had more =
     let grown : now ≡ es ++ entry n e r ∷ [] = is ∙ ap (λ (b : Bool). if b then es ++ entry n e r ∷ [] else es) stored in
     let len : length now ≡ length (es ++ entry n e r ∷ []) = ap length grown in
@@ -70,8 +71,3 @@ pass_view n cs = record { number = n; calls = cs }
 
 pub one_more : (n : ℕ) (before now : List PassView) (cs : List Call) → before ≡ new_passes n → cs ≡ [] → now ≡ before ++ pass_view n cs ∷ [] → now ≡ new_passes (n + 1)
 one_more n before now cs b c w = w ∙ ((λ i. b i ++ pass_view n (c i) ∷ []) ∙ sym (map-range_with_len_more new_pass 0 n n (omega arith)))
-
--- ---- no event
-
-pub replay_opening : (c : Config) (w : World) → w ≡ opening c → IsReplay c w []
-replay_opening c w e = record { state = e; answers = refl }

@@ -1,13 +1,13 @@
 -- A history: the events that a cluster took, each with its reply and with the pass by which it came, as one thread that gives
 -- them to a new cluster would have it.
-use Rattle.std.specs.Prelude.{◌≡◌, ℕ, ◌+◌, ◌==◌, Bool, true, false, List, [], ◌∷◌, ◌++◌, map, if◌then◌else◌}
+use Rattle.std.specs.Prelude.{◌≡◌, ℕ, ◌+◌, ◌==◌, List, [], ◌∷◌, ◌++◌, map, if◌then◌else◌}
 use Rattle.std.specs.List.{All, range_with_len}
 use Rattle.eos_machine.specs.declared.config.Config.{Config}
 use Rattle.eos_machine.specs.declared.event.Event.{Event}
 use Rattle.eos_machine.specs.declared.event.Reply.{Reply}
-use Rattle.eos_machine.specs.declared.event.Reply.TheVariants.{Done, Fenced, OutOfOrder, DuplicateKept, WrongState, Busy, StaleGeneration, EpochsSpent, Unknown, OutOfMemory, Full}
 use Rattle.eos_machine.specs.World.{World, opening}
 use Rattle.eos_machine.specs.Machine.{world_after, replies}
+use Rattle.eos_drive.specs.Driven.{is_taken}
 use Rattle.eos_drive.specs.declared.finished.Entry.{Entry}
 use Rattle.eos_drive.specs.declared.finished.Call.{Call}
 use Rattle.eos_drive.specs.declared.finished.Called.{Called}
@@ -27,23 +27,9 @@ pub record IsReplay (c : Config) (w : World) (es : List Entry) : Type 0 where
 
 -- ---- what is stored
 
--- all replies are stored but those that leave everything as it was
-abbrev pub is_stored : Reply → Bool
-is_stored (Done n) = true
-is_stored Fenced = true
-is_stored OutOfOrder = true
-is_stored DuplicateKept = true
-is_stored WrongState = true
-is_stored Busy = true
-is_stored StaleGeneration = true
-is_stored EpochsSpent = true
-is_stored Unknown = true
-is_stored OutOfMemory = false
-is_stored Full = false
-
--- a caller's own calls after one more, with the place that it was told
+-- a caller's own calls after one more, if it was taken, with the place that it was told
 abbrev pub noted : List Call → Event → Called → List Call
-noted cs e x = if is_stored x.reply then cs ++ record { place = x.place; event = e; reply = x.reply } ∷ [] else cs
+noted cs e x = if is_taken x.reply then cs ++ record { place = x.place; event = e; reply = x.reply } ∷ [] else cs
 
 -- ---- passes
 

@@ -29,14 +29,14 @@ impl Model for History {
 }
 
 /// Whether an event was taken, by its reply: it is but for those that leave everything as it was.
-fn is_taken(reply: Reply) -> bool
+pub(crate) fn is_taken(reply: Reply) -> bool
     ensures { result ≡ is_taken reply }
 {
     !matches!(reply, Reply::OutOfMemory | Reply::Full)
 }
 
 /// A copy of an event.
-fn copy(event: &Event) -> Result<Event, AllocError>
+pub(crate) fn copy(event: &Event) -> Result<Event, AllocError>
     ensures { IfOk result (λ e. e ≡ event.now) }
 {
     event.clone()

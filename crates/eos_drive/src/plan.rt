@@ -175,9 +175,27 @@ impl Plan {
         from: u64,
         most: u64,
     ) -> Result<(), AllocError> {
-        if source >= self.config.inputs {
-            return self.add_chained(requests, source, from, most);
+        let to = match source.checked_sub(self.config.inputs) {
+            Some(partition) => self.add_chained(requests, partition, from, most)?,
+            None => self.add_read(requests, source, from, most)?,
+        };
+        if from < to {
+            requests.push(Request::Commit {
+                source,
+                offset: Some(to),
+            })?;
         }
+        Ok(())
+    }
+
+    /// The outputs of a partition of `in`, and the offset to which it is read.
+    fn add_read(
+        &mut self,
+        requests: &mut Vec<Request>,
+        source: usize,
+        from: u64,
+        most: u64,
+    ) -> Result<u64, AllocError> {
         let end = match self.ends.get(source) {
             Some(end) => *end,
             None => 0,
@@ -190,24 +208,19 @@ impl Plan {
         }
         if from < to {
             self.add_ahead(requests, Input { source, offset: to })?;
-            requests.push(Request::Commit {
-                source,
-                offset: Some(to),
-            })?;
         }
-        Ok(())
+        Ok(to)
     }
 
-    /// The same for a source of the second group, which is given the records of ended transactions before any open one. It
-    /// passes over those that were aborted, but for one where a mishap happens.
+    /// The same for a partition of `out`, of which the second group is given the records of ended transactions before any open one.
+    /// It passes over those that were aborted, but for one where a mishap happens.
     fn add_chained(
         &mut self,
         requests: &mut Vec<Request>,
-        source: usize,
+        partition: usize,
         from: u64,
         most: u64,
-    ) -> Result<(), AllocError> {
-        let partition = source.saturating_sub(self.config.inputs);
+    ) -> Result<u64, AllocError> {
         let mut left = most;
         let mut to = from;
         for offset in from..self.end_of(partition) {
@@ -230,13 +243,7 @@ impl Plan {
                 break;
             }
         }
-        if from < to {
-            requests.push(Request::Commit {
-                source,
-                offset: Some(to),
-            })?;
-        }
-        Ok(())
+        Ok(to)
     }
 
     /// How far a partition of `out` was read.

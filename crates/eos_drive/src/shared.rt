@@ -5,10 +5,11 @@ ghost use Rattle.std.specs.Prelude.{◌≡◌, ◌↔◌, ◌+◌, ◌≤◌, �
 ghost use Rattle.std.specs.List.{sum_by};
 ghost use Rattle.std.specs.Result.{OnOk};
 ghost use Rattle.eos_cluster.specs.Courses.{IsStep, IsCounted};
-ghost use Rattle.eos_drive.specs.Replay.{IsReplay, is_stored, noted, told, new_passes, call_at, calls_of, Agree};
+ghost use Rattle.eos_drive.specs.Replay.{IsReplay, noted, told, new_passes, call_at, calls_of, Agree};
 ghost use Rattle.eos_drive.specs.steps.Replay.{recorded};
 
 use crate::finished::{Call, Called, Entry, Finished};
+use crate::history::{copy, is_taken};
 use eos_base::Listed;
 use eos_cluster::Cluster;
 use eos_machine::{Event, Reply};
@@ -83,20 +84,6 @@ impl<L: Ledger> Model for History<L> {
         × (h.book.total ≡ length h.entries.items) × (h.rest.parts ≡ 0) × (h.rest.amount ≡ 0) };
 }
 
-/// Whether a reply is stored: all are but those that leave everything as it was.
-fn is_stored(reply: Reply) -> bool
-    ensures { result ≡ is_stored reply }
-{
-    !matches!(reply, Reply::OutOfMemory | Reply::Full)
-}
-
-/// A copy of an event.
-fn copy(event: &Event) -> Result<Event, AllocError>
-    ensures { IfOk result (λ e. e ≡ event.now) }
-{
-    event.clone()
-}
-
 /// Makes room for an entry and for a call, and two copies of the event.
 fn prepare(
     entries: &mut Vec<Entry>,
@@ -152,7 +139,7 @@ fn answer(
         };
     };
     let reply = cluster.step(event);
-    if is_stored(reply) {
+    if is_taken(reply) {
         let entry = Entry {
             pass,
             event: first,
@@ -278,7 +265,7 @@ impl<L: Ledger> History<L> {
             &mut pass.calls,
             event,
         );
-        if is_stored(called.reply) {
+        if is_taken(called.reply) {
             self.book.add(&mut pass.share, 1);
         }
         called

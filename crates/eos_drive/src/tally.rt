@@ -1,8 +1,7 @@
 //! How often what happened to a cluster.
 
-ghost use Rattle.std.specs.Prelude.{◌≡◌, IfOk};
-ghost use Rattle.std.specs.List.{count_by};
-ghost use Rattle.eos_drive.specs.Totals.{is_event, notes_loss, notes_repetition, is_loss, is_repetition, IsTallyOf};
+ghost use Rattle.std.specs.Prelude.{◌≡◌, ◌+◌, ◌<◌, ◌^◌, if◌then◌else◌, IfOk};
+ghost use Rattle.eos_drive.specs.Totals.{is_event, is_loss, is_repetition, IsTallyOf};
 
 use crate::deed::Deed;
 use eos_machine::{Event, Note, Reply};
@@ -50,85 +49,35 @@ struct Decisions {
 pub(crate) fn tally_of(alloc: Global, deeds: &[Deed]) -> Result<Tally, AllocError>
     ensures { IfOk result (IsTallyOf deeds.now) }
 {
-    let transactions = decided(alloc, deeds)?;
-    Ok(Tally {
-        events: events_in(deeds),
-        transactions,
-        lost: losses_in(deeds),
-        repeated: repetitions_in(deeds),
-    })
-}
-
-fn events_in(deeds: &[Deed]) -> u64
-    ensures { result ≡ count_by is_event deeds.now }
-{
-    let mut count = 0u64;
+    let mut tally = Tally {
+        events: 0,
+        transactions: decided(alloc, deeds)?,
+        lost: 0,
+        repeated: 0,
+    };
     for deed in deeds {
-        if is_event(deed) {
-            count += 1;
+        tally = tally.with(deed);
+    }
+    Ok(tally)
+}
+
+impl Tally {
+    /// With one deed more, but for the transactions.
+    fn with(self, deed: &Deed) -> Tally
+        requires { (self.events < 2 ^ 63) × (self.lost < 2 ^ 63) × (self.repeated < 2 ^ 63) }
+        ensures events { result.events ≡ self.events + (if is_event deed.now then 1 else 0) }
+        ensures lost { result.lost ≡ self.lost + (if is_loss deed.now then 1 else 0) }
+        ensures repeated { result.repeated ≡ self.repeated + (if is_repetition deed.now then 1 else 0) }
+    {
+        let mut tally = self;
+        match deed {
+            Deed::Asked { .. } => tally.events += 1,
+            Deed::Noted(Note::Lost(_)) => tally.lost += 1,
+            Deed::Noted(Note::Repeated(_)) => tally.repeated += 1,
+            Deed::Noted(Note::Erred(_)) | Deed::Set(_) => {}
         }
+        tally
     }
-    count
-}
-
-fn losses_in(deeds: &[Deed]) -> u64
-    ensures { result ≡ count_by is_loss deeds.now }
-{
-    let mut count = 0u64;
-    for deed in deeds {
-        if is_loss(deed) {
-            count += 1;
-        }
-    }
-    count
-}
-
-fn repetitions_in(deeds: &[Deed]) -> u64
-    ensures { result ≡ count_by is_repetition deeds.now }
-{
-    let mut count = 0u64;
-    for deed in deeds {
-        if is_repetition(deed) {
-            count += 1;
-        }
-    }
-    count
-}
-
-fn is_event(deed: &Deed) -> bool
-    ensures { result ≡ is_event deed.now }
-{
-    matches!(deed, Deed::Asked { .. })
-}
-
-fn is_loss(deed: &Deed) -> bool
-    ensures { result ≡ is_loss deed.now }
-{
-    match deed {
-        Deed::Noted(note) => notes_loss(note),
-        Deed::Asked { .. } | Deed::Set(_) => false,
-    }
-}
-
-fn notes_loss(note: &Note) -> bool
-    ensures { result ≡ notes_loss note.now }
-{
-    matches!(note, Note::Lost(_))
-}
-
-fn is_repetition(deed: &Deed) -> bool
-    ensures { result ≡ is_repetition deed.now }
-{
-    match deed {
-        Deed::Noted(note) => notes_repetition(note),
-        Deed::Asked { .. } | Deed::Set(_) => false,
-    }
-}
-
-fn notes_repetition(note: &Note) -> bool
-    ensures { result ≡ notes_repetition note.now }
-{
-    matches!(note, Note::Repeated(_))
 }
 
 /// How many transactions were decided.

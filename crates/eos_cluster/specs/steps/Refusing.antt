@@ -1,5 +1,5 @@
 -- A refusal, if there is one, and the answer that it is.
-use Rattle.std.specs.Prelude.{◌≡◌, Bool, true, false, Option, None, Some, Result, Ok, Err}
+use Rattle.std.specs.Prelude.{◌≡◌, Bool, true, false, Option, None, Some}
 use Rattle.eos_machine.specs.declared.event.Reply.{Reply}
 use Rattle.eos_machine.specs.declared.event.Reply.TheVariants.{Done, Fenced, OutOfOrder, DuplicateKept, WrongState, Busy, StaleGeneration, EpochsSpent, Unknown, OutOfMemory, Full}
 
@@ -20,7 +20,3 @@ is_done Full = false
 abbrev pub IsRefusal : Option Reply → Reply → Type 0
 IsRefusal None answer = is_done answer ≡ true
 IsRefusal (Some refusal) answer = answer ≡ refusal
-
-abbrev pub refusal_of : Result Bool Reply → Option Reply
-refusal_of (Ok listed) = None
-refusal_of (Err refusal) = Some refusal

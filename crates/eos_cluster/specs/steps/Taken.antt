@@ -1,17 +1,18 @@
 -- A message on its way: a refusal, or what is done.
-use Rattle.std.specs.Prelude.{ℕ, Bool, false, [], length, if◌then◌else◌, Option, Some, None, Result, Ok, Err, ⊤}
+use Rattle.std.specs.Prelude.{ℕ, Bool, true, false, [], length, if◌then◌else◌, Option, Some, None, Result, Ok, Err, ⊤}
 use Rattle.eos_batch.specs.declared.marker.Kind.{Kind}
 use Rattle.eos_machine.specs.declared.config.Config.{Config}
 use Rattle.eos_machine.specs.declared.switches.Switches.{Switches}
 use Rattle.eos_machine.specs.World.{World, coord_at, log_at, prepared, finished}
+use Rattle.eos_machine.specs.declared.state.Coordinator.{Coordinator}
 use Rattle.eos_machine.specs.declared.item.Item.{Item}
 use Rattle.eos_machine.specs.declared.state.Message.{Message}
 use Rattle.eos_machine.specs.declared.state.Message.TheVariants as messages
 use Rattle.eos_machine.specs.declared.event.Reply.{Reply}
-use Rattle.eos_machine.specs.declared.event.Reply.TheVariants.{Done, Fenced}
+use Rattle.eos_machine.specs.declared.event.Reply.TheVariants.{Done, Fenced, Busy}
 use Rattle.eos_machine.specs.Answers.{Answer, when}
 use Rattle.eos_machine.specs.Deliveries.{appended, accept, without, ticked}
-use Rattle.eos_machine.specs.Tests.{is_nil, ongoing_partitions}
+use Rattle.eos_machine.specs.Tests.{is_current, is_prepare, is_nil, ongoing_partitions}
 use Rattle.eos_broker.specs.Named.{IsFrom}
 use Rattle.eos_cluster.specs.declared.accept.Request.{Request}
 use Rattle.eos_cluster.specs.declared.accept.Arrival.{Arrival}
@@ -26,6 +27,10 @@ IsData (messages.Marker a e k p) = ⊥
 -- data of an old epoch: no transaction lists it, or it is refused
 abbrev pub fence : Switches → Result Bool Reply
 fence u = if u.no_fence then Ok false else Err Fenced
+
+-- data at the coordinator: whether its transaction lists them, or the refusal
+abbrev pub admitted : Switches → Coordinator → ℕ → Result Bool Reply
+admitted u s e = if is_current s e then (if is_prepare s.status then Err Busy else Ok true) else fence u
 
 -- data by this item: whether its transaction lists it, or the refusal
 abbrev pub judged : Switches → Config → World → Request → Item → Result Bool Reply → Answer

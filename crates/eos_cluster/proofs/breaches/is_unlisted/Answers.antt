@@ -1,11 +1,11 @@
-use Rattle.std.proofs.Common.{ap, ◌∙◌, sym}
-use Rattle.eos_machine.specs.World.{fresh}
-use Rattle.eos_cluster.specs.Breaches.{is_unlisted}
-use Rattle.eos_cluster.specs.steps.Restarting.{said_by}
+use Rattle.std.proofs.Common.{refl}
 use Rattle.eos_cluster.proofs.breaches.is_unlisted.Goals as goal
 
 pub returns-in-None : goal.returns-in-None
-returns-in-None c = sym (ap (λ s. is_unlisted s c.args.marker.epoch c.args.marker.kind c.args.marker.place) (c.last_said.ensures ∙ ap (λ r. said_by r fresh) c.in-None.is))
+returns-in-None c = rw (c.last_said.ensures, c.in-None.is) refl
 
-pub returns-in-Some : goal.returns-in-Some
-returns-in-Some c = c.omits.ensures ∙ sym (ap (λ s. is_unlisted s c.args.marker.epoch c.args.marker.kind c.args.marker.place) (c.last_said.ensures ∙ ap (λ r. said_by r fresh) c.in-Some.is))
+pub returns-then-waits_for : goal.returns-then-waits_for
+returns-then-waits_for c = rw (c.last_said.ensures, c.in-Some.is, ← c.waits_for.ensures, c.if-waits_for.true, c.has.ensures, c.as_slice.ensures) refl
+
+pub returns-else-waits_for : goal.returns-else-waits_for
+returns-else-waits_for c = rw (c.last_said.ensures, c.in-Some.is, ← c.waits_for.ensures, c.if-waits_for.false) refl

@@ -1,6 +1,0 @@
-use Rattle.std.proofs.Common.{◌≡◌, ◌≤◌, take, count_by}
-use Rattle.eos_drive.specs.Totals.{is_repetition}
-use Rattle.eos_drive.proofs.tally.repetitions_in.Given as goal
-
-abbrev pub invariant-loop-deed : goal.invariant-loop-deed
-invariant-loop-deed l = (l.count ≡ count_by is_repetition (take l.deed-index l.deeds)) × (l.count ≤ l.deed-index)
