@@ -1,9 +1,9 @@
 -- Where transactions stand in a partition, one further.
-use Rattle.std.proofs.Common.{◌≡◌, ◌≢◌, ◌<◌, ◌≤◌, ◌⊎◌, ◌+◌, ◌-◌, ◌&&◌, length, zero, suc, arith, refl, ℕ, ℤ, Bool, true, false, List, [], ◌∷◌, ◌++◌, drop, get_or, map, Option, Some, None, Result, Ok, Err, inl, inr, sym, ap, subst, ◌∙◌, append_assoc, cond}
+use Rattle.std.proofs.Common.{◌≡◌, ◌≢◌, ◌<◌, ◌≤◌, ◌⊎◌, ◌+◌, ◌-◌, ◌&&◌, length, zero, suc, arith, refl, ℕ, ℤ, Bool, true, false, List, [], ◌∷◌, ◌++◌, drop, get_or, map, Option, Some, None, Result, Ok, Err, inl, inr, sym, ap, subst, ◌∙◌, append_assoc}
 use Rattle.std.specs.List.{slice_get, range_with_len, flat_map, Contains}
 use Rattle.std.specs.Option.{option_or}
 use Rattle.std.specs.Prelude.{IfOk}
-use Rattle.std.specs.Ordering.{nat_cmp, int_eq, int_cmp, ordering_then, ordering_reverse, is_eq}
+use Rattle.std.specs.Ordering.{nat_cmp, int_eq, int_cmp, ordering_reverse, is_eq}
 use Rattle.std.specs.Cmp.{IsTotalOrder}
 use Rattle.std.specs.Cmp.Lexicographic.{slice_cmp}
 use Rattle.std.specs.declared.cmp.Ordering.{Ordering}
@@ -21,7 +21,7 @@ use Rattle.eos_fold.specs.declared.item.Item.{Item}
 use Rattle.eos_picture.specs.declared.mark.Column.{Column}
 use Rattle.eos_picture.specs.Order.{is_writer, offset_if, last_of, stands_at, standing, standings, IsOrderOf, is_of_name, nearness, near_to}
 use Rattle.eos_picture.specs.Window.{IsAtPlace, around_in, AreAround, listed, at_place}
-use Rattle.eos_picture.specs.steps.Standing.{by_writer, IsNear, AreNoNearer}
+use Rattle.eos_picture.specs.steps.Standing.{IsNear, AreNoNearer}
 use Rattle.eos_picture.proofs.WholeRows.{drop_has, none_left}
 
 -- ---- the last data record
@@ -42,36 +42,6 @@ last_next left rest x w last now all e is before =
 
 pub last_end : (left : List Item) (w : ℤ × ℤ) (last all : Option ℕ) → left ≡ [] → option_or (last_of left w) last ≡ all → last ≡ all
 last_end left w last all e h = ap (λ (z : List Item). option_or (last_of z w) last) (sym e) ∙ h
-
-pub last_start : (items : List Item) (w : ℤ × ℤ) (last : Option ℕ) → last ≡ None → option_or (last_of items w) last ≡ last_of items w
-last_start items w last e = ap (λ z. option_or (last_of items w) z) e ∙ or_none (last_of items w)
-
-eq_then : (a b : Ordering) → is_eq (ordering_then a b) ≡ (is_eq a && is_eq b)
-eq_then Less b = refl
-eq_then Equal b = refl
-eq_then Greater b = refl
-
-offset_else : (b : Bool) (o : ℕ) (last : Option ℕ) → cond b (Some o) last ≡ option_or (offset_if b o) last
-offset_else true o last = refl
-offset_else false o last = refl
-
--- the table of the last ones, one further
-pub put_last : (v w : ℤ × ℤ) (o : ℕ) (last : Option ℕ) → cond (is_eq (by_writer v w)) (Some o) last ≡ option_or (offset_if (is_writer (Some v) w) o) last
-put_last v w o last = ap (λ b. cond b (Some o) last) (eq_then (int_cmp v.0 w.0) (int_cmp v.1 w.1)) ∙ offset_else (int_eq v.0 w.0 && int_eq v.1 w.1) o last
-
--- ---- all that stand in a partition
-
-standings_drop : (p : PartLog) (columns : List Column) (i : ℕ) (d : Column) → i < length columns → standings p i (drop i columns) ≡ standing (stands_at p (get_or columns i d)) i ++ standings p (i + 1) (drop (i + 1) columns)
-standings_drop p columns i d lt =
-    let one : suc i ≡ i + 1 = omega arith in
-    ap (standings p i) (drop-cons columns i d lt) ∙ ap (λ n. standing (stands_at p (get_or columns i d)) i ++ standings p (i + 1) (drop n columns)) one
-
-pub standings_next : (p : PartLog) (columns : List Column) (i : ℕ) (d : Column) (found now : List (ℕ × ℕ)) → i < length columns → now ≡ found ++ standing (stands_at p (get_or columns i d)) i
-    → found ++ standings p i (drop i columns) ≡ standings p 0 columns → now ++ standings p (i + 1) (drop (i + 1) columns) ≡ standings p 0 columns
-standings_next p columns i d found now lt is before =
-    let this = standing (stands_at p (get_or columns i d)) i in
-    let rest = standings p (i + 1) (drop (i + 1) columns) in
-    ap (λ z. z ++ rest) is ∙ (append_assoc found this rest ∙ (ap (λ z. found ++ z) (sym (standings_drop p columns i d lt)) ∙ before))
 
 -- ---- where one stands in the order
 
@@ -233,11 +203,6 @@ got_has : {X : Type 0} (xs : List X) (i : ℕ) (x : X) → slice_get xs i ≡ So
 got_has [] i x e = absurd cc
 got_has (y ∷ ys) zero x e = inl cc
 got_has (y ∷ ys) (suc i) x e = inr (got_has ys i x e)
-
-pub around_alone : (logs : List PartLog) (every : List Column) (name : Option PartitionName) (m : ℕ) (c : Column) (around : ℕ) (places : List ℕ) (most : ℕ)
-    → slice_get every m ≡ Some c → most ≡ 0 → AreNoNearer logs name c most → places ≡ m ∷ [] → AreAround logs every name m (slice_get every m) around places
-around_alone logs every name m c around places most at none others are =
-    subst (λ o. AreAround logs every name m o around places) (sym at) (inr (record { none = λ q has. let le = others q has in omega (arith, le, none); are = are }))
 
 pub around_beside : (logs : List PartLog) (every : List Column) (name : Option PartitionName) (m : ℕ) (c : Column) (around : ℕ) (places : List ℕ) (most i k : ℕ) (p : PartLog) (order : List (ℕ × ℕ))
     → slice_get every m ≡ Some c → IsNear logs name c i most → AreNoNearer logs name c most → (d : PartLog) → p ≡ get_or logs i d → IsOrderOf p every order → IsAtPlace order k m

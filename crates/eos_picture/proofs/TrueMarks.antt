@@ -1,6 +1,7 @@
 -- Marks that are true, and one more.
 use Rattle.std.proofs.Common.{◌≡◌, ◌<◌, ◌≤◌, length, zero, suc, arith, refl, ℕ, ℤ, List, [], ◌∷◌, ◌++◌, Option, Some, None, inl, inr, sym, ap, subst, ◌∙◌}
 use Rattle.std.specs.List.{slice_get, slice_index_or}
+use Rattle.std.specs.Prelude.{IfSome}
 use Rattle.std.proofs.lemmas.Option.{slice_get_past}
 use Rattle.eos_batch.specs.declared.marker.Kind.{Kind}
 use Rattle.eos_batch.specs.declared.marker.Marker.{Marker}
@@ -8,8 +9,6 @@ use Rattle.eos_base.specs.Members.{Has}
 use Rattle.eos_base.proofs.Membership.{append_cases}
 use Rattle.eos_fold.specs.declared.close.Close.{Close}
 use Rattle.eos_fold.specs.Parts.{PartLog}
-use Rattle.eos_fold.specs.declared.item.Fate.{Fate}
-use Rattle.eos_fold.specs.declared.item.Item.{Item}
 use Rattle.eos_picture.specs.declared.mark.Column.{Column}
 use Rattle.eos_picture.specs.declared.mark.Decided.{Decided}
 use Rattle.eos_picture.specs.Ends.{ends, HasNone}
@@ -18,7 +17,7 @@ use Rattle.eos_picture.specs.declared.mark.Row.{Row}
 use Rattle.eos_picture.specs.declared.mark.Sign.{Sign}
 use Rattle.eos_picture.specs.declared.mark.Sign.TheVariants as signs
 use Rattle.eos_picture.specs.Marks.{IsSo, IsTrueAt, IsTrueOf, AreTrue, IsTrueRow, HasTrueRows}
-use Rattle.eos_picture.specs.Signs.{IsOf, IsOfWriter}
+use Rattle.eos_picture.specs.Signs.{IsOfWriter}
 
 pub one_more : (p : PartLog) (columns : List Column) (marks : List Mark) (m : Mark) → IsTrueOf p columns m → AreTrue p columns marks → AreTrue p columns (marks ++ m ∷ [])
 one_more p columns marks m now before x h = elim (append_cases marks (m ∷ []) x h) [ inl a ↦ before x a | inr b ↦ last b ]
@@ -26,20 +25,6 @@ one_more p columns marks m now before x h = elim (append_cases marks (m ∷ []) 
     last : Has (m ∷ []) x → IsTrueOf p columns x
     last (inl e) = subst (IsTrueOf p columns) e now
     last (inr k) = absurd k
-
-of_record : (p : PartLog) (c : Column) (x : Item) (w : ℤ × ℤ) (sign : Sign) → Has p.items x → x.writer ≡ Some w → w ≡ (c.producer, c.epoch) → IsOf x sign → IsSo p c sign
-of_record p c x w (signs.Decision offset kind) has by e h = absurd h
-of_record p c x w (signs.Record offset fate) has by e h = record { item = x; has = has; by = by ∙ ap (λ (z : ℤ × ℤ). Some z) e; at = h.0; came_to = h.1 }
-of_record p c x w (signs.Commit offset fate source committed) has by e h = record { item = x; has = has; by = by ∙ ap (λ (z : ℤ × ℤ). Some z) e; at = h.0; came_to = h.1 }
-of_record p c x w (signs.Passed fate from to) has by e h = absurd h
-of_record p c x w (signs.Marker kind count) has by e h = absurd h
-of_record p c x w (signs.Missing kind) has by e h = absurd h
-of_record p c x w (signs.Spot place) has by e h = absurd h
-
--- a record's sign is true in its writer's column
-pub true_record : (p : PartLog) (c : Option Column) (x : Item) (w : ℤ × ℤ) (sign : Sign) → Has p.items x → x.writer ≡ Some w → IsOfWriter c w → IsOf x sign → IsTrueAt p c sign
-true_record p None x w sign has by e h = absurd e
-true_record p (Some c) x w sign has by e h = of_record p c x w sign has by e h
 
 pub one_more_in : (p : PartLog) (columns : List Column) (old new : List Mark) (m : Mark) → new ≡ old ++ m ∷ [] → IsTrueOf p columns m → AreTrue p columns old → AreTrue p columns new
 one_more_in p columns old new m e now before = subst (λ z. AreTrue p columns z) (sym e) (one_more p columns old m now before)
@@ -65,26 +50,23 @@ own_true p columns i w kind count own some many = go (slice_get columns i) refl
     go (Some c) e = inr (inr (record { some = some; many = many ∙ ap (λ (z : ℤ × ℤ). ends p.markers z.0 z.1 kind) (own c e) }))
 
 -- end markers with the epoch that was decided, and that there are none
-pub marked_true : (p : PartLog) (o : Option Column) (c : Column) (d : Decided) (kind : Kind) (count : ℕ) → o ≡ Some c → c.decided ≡ Some d → 1 ≤ count
-    → count ≡ ends p.markers c.producer d.marker_epoch kind → IsTrueAt p o (signs.Marker kind count)
-marked_true p o c d kind count at by some many = subst (λ z. IsTrueAt p z (signs.Marker kind count)) (sym at) (inl (record { decided = d; by = by; some = some; many = many }))
+pub marked_true : (p : PartLog) (c : Column) (d : Decided) (kind : Kind) (count : ℕ) → c.decided ≡ Some d → 1 ≤ count → count ≡ ends p.markers c.producer d.marker_epoch kind → IsSo p c (signs.Marker kind count)
+marked_true p c d kind count by some many = inl (record { decided = d; by = by; some = some; many = many })
 
-pub missing_true : (p : PartLog) (o : Option Column) (c : Column) (d : Decided) → o ≡ Some c → c.decided ≡ Some d → HasNone p.markers c.producer d.marker_epoch
-    → IsTrueAt p o (signs.Missing d.kind)
-missing_true p o c d at by none = subst (λ z. IsTrueAt p z (signs.Missing d.kind)) (sym at) (record { decided = d; by = by; so = refl; none = none })
-
-pub passed_true : (p : PartLog) (c : Option Column) (fate : Fate) (from to : ℤ) → IsTrueAt p c (signs.Passed fate from to)
-passed_true p None fate from to = tt
-passed_true p (Some c) fate from to = tt
+pub missing_true : (p : PartLog) (c : Column) (d : Decided) → c.decided ≡ Some d → HasNone p.markers c.producer d.marker_epoch → IsSo p c (signs.Missing d.kind)
+missing_true p c d by none = record { decided = d; by = by; so = refl; none = none }
 
 pub none_true : (p : PartLog) (columns : List Column) (marks : List Mark) → marks ≡ [] → AreTrue p columns marks
 none_true p columns marks e = subst (λ z. AreTrue p columns z) (sym e) (λ m h. absurd h)
 
 -- the next end marker of a transaction without a Prepare record
-pub closed_true : (p : PartLog) (c : Option Column) (x : Close) (count : ℕ) → Has p.closes x → IsOfWriter c (x.producer, x.epoch) → count ≡ ends p.markers x.producer x.marker_epoch x.kind → IsTrueAt p c (signs.Marker x.kind count)
-closed_true p None x count has e many = absurd e
-closed_true p (Some c) x count has e many =
-    inr (inl (record { close = x; has = has; producer = sym (ap (λ (z : ℤ × ℤ). z.0) e); epoch = sym (ap (λ (z : ℤ × ℤ). z.1) e); so = refl; many = many }))
+pub closed_true : (p : PartLog) (c : Column) (x : Close) (count : ℕ) → Has p.closes x → c.producer ≡ x.producer → c.epoch ≡ x.epoch → count ≡ ends p.markers x.producer x.marker_epoch x.kind
+    → IsSo p c (signs.Marker x.kind count)
+closed_true p c x count has producer epoch many = inr (inl (record { close = x; has = has; producer = producer; epoch = epoch; so = refl; many = many }))
+
+-- what is found of a column is true in its place
+pub found_true : (p : PartLog) (o : Option Column) (c : Column) (found : Option Sign) → o ≡ Some c → IfSome found (IsSo p c) → IfSome found (IsTrueAt p o)
+found_true p o c found at so = subst (λ (z : Option Column). IfSome found (IsTrueAt p z)) (sym at) so
 
 pub indexed_has : {X : Type 0} (xs : List X) (i : ℕ) (d : X) → i < length xs → Has xs (slice_index_or xs i d)
 indexed_has [] i d lt = absurd (omega (arith, lt))

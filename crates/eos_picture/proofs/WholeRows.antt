@@ -15,13 +15,14 @@ use Rattle.eos_fold.specs.declared.item.Item.{Item}
 use Rattle.eos_picture.specs.declared.mark.Column.{Column}
 use Rattle.eos_picture.specs.declared.mark.Mark.{Mark}
 use Rattle.eos_picture.specs.declared.mark.Row.{Row}
+use Rattle.eos_picture.specs.declared.mark.Sign.{Sign}
 use Rattle.eos_picture.specs.declared.mark.Sign.TheVariants as signs
 use Rattle.eos_picture.specs.Marks.{HasTrueRows}
 use Rattle.eos_picture.specs.Signs.{IsOfWriter}
 use Rattle.eos_table.specs.TransactionLog.{is_transaction_part}
 use Rattle.eos_picture.specs.Whole.{IsAt, IsMarkOf, Shows, ShowsRecord, ShowsDecision, ShowsEnds, ShowsMissing, ShowsClose, IsWhole, IsCovered}
 use Rattle.eos_picture.specs.Ends.{ends}
-use Rattle.eos_picture.specs.steps.Acts.{ShowsActs}
+use Rattle.eos_picture.specs.steps.Acts.{FindsDecision, FindsEnds, FindsMissing, FindsClose, IsShown, ShowsActs}
 use Rattle.eos_base.specs.declared.partition_name.PartitionName.{PartitionName}
 use Rattle.eos_claims.specs.declared.place.Place.{Place}
 use Rattle.eos_picture.specs.Window.{IsThere, IsOfRecordAt}
@@ -96,11 +97,6 @@ inside_of columns i w h = go (slice_get columns i) refl h
     go None e k = absurd k
     go (Some c) e k = (c, e)
 
-pub at_index : {X : Type 0} (xs : List X) (i : ℕ) (d x : X) → slice_get xs i ≡ Some x → slice_index_or xs i d ≡ x
-at_index [] i d x e = absurd cc
-at_index (y ∷ ys) zero d x e = cc
-at_index (y ∷ ys) (suc i) d x e = at_index ys i d x e
-
 -- below the next place is below this one, or this one
 pub below_next : (P : ℕ → Type 0) (i : ℕ) → ((j : ℕ) → j < i → P j) → P i → (j : ℕ) → j < i + 1 → P j
 below_next P i before now j lt = elim (cases_lt j i) [
@@ -108,35 +104,46 @@ below_next P i before now j lt = elim (cases_lt j i) [
   | inr r ↦ let e : i ≡ j = omega (arith, lt, r) in subst P e now
 ]
 
-pub not_here : (columns : List Column) (i : ℕ) (d : Column) (w : ℤ × ℤ) → w ≢ ((slice_index_or columns i d).producer, (slice_index_or columns i d).epoch) → IsOfWriter (slice_get columns i) w → ⊥
-not_here columns i d w other h =
-    let there = inside_of columns i w h in
-    let c : Column = there.0 in
-    let same : slice_index_or columns i d ≡ c = at_index columns i d c there.1 in
-    let is : w ≡ (c.producer, c.epoch) = subst (λ z. IsOfWriter z w) there.1 h in
-    other (is ∙ sym (ap (λ (z : Column). (z.producer, z.epoch)) same))
-
 -- nobody writes behind the end
 pub none_behind : (columns : List Column) (i : ℕ) (w : ℤ × ℤ) → length columns ≤ i → IsOfWriter (slice_get columns i) w → ⊥
 none_behind columns i w le h = subst (λ z. IsOfWriter z w) (slice_get_past columns i le) h
 
 -- ---- what each function adds
 
+-- what is found in a column is what the one at its place did
+one_column : (columns : List Column) (i : ℕ) (at c : Column) → slice_get columns i ≡ Some at → slice_get columns i ≡ Some c → at ≡ c
+one_column columns i at c e f = cc
+
+found_shown : (marks : List Mark) (i : ℕ) (found : Option Sign) (s : Sign) → IsShown marks i found → found ≡ Some s → Shows marks (IsAt i s)
+found_shown marks i found s shown e = subst (IsShown marks i) e shown
+
+kept_found : (old new : List Mark) (i : ℕ) (found : Option Sign) → Keeps old new → IsShown old i found → IsShown new i found
+kept_found old new i None keeps h = tt
+kept_found old new i (Some s) keeps h = kept_shown old new (IsAt i s) keeps h
+
+pub close_shown : (markers : List Marker) (columns : List Column) (marks : List Mark) (at : Column) (found : Option Sign) (x : Close) (i : ℕ) → slice_get columns i ≡ Some at → FindsClose markers at x found → IsShown marks i found
+    → ShowsClose markers columns marks x i
+close_shown markers columns marks at found x i is finds shown = λ c there. let same = one_column columns i at c is there in
+    λ by producer epoch. found_shown marks i found _ shown (subst (λ (z : Column). FindsClose markers z x found) same finds by producer epoch)
+
 -- one after the other
-pub all_acts : (p : PartLog) (columns : List Column) (d a b m k : List Mark) (i : ℕ) → (is_transaction_part p ≡ true → ShowsDecision p.number columns d i)
-    → Keeps d a → ShowsEnds p.markers columns a i Commit → Keeps a b → ShowsEnds p.markers columns b i Abort
-    → Keeps b m → ((x : Item) → Has p.items x → ShowsMissing p.markers columns m x i) → Keeps m k → ((x : Close) → Has p.closes x → ShowsClose p.markers columns k x i)
+pub all_acts : (p : PartLog) (columns : List Column) (at : Column) (decision commits aborts missing : Option Sign) (d a b m k : List Mark) (i : ℕ) → slice_get columns i ≡ Some at
+    → FindsDecision p at decision → IsShown d i decision → Keeps d a → FindsEnds p.markers at Commit commits → IsShown a i commits → Keeps a b → FindsEnds p.markers at Abort aborts → IsShown b i aborts
+    → Keeps b m → ((x : Item) → Has p.items x → FindsMissing p.markers at x missing) → IsShown m i missing → Keeps m k → ((x : Close) → Has p.closes x → ShowsClose p.markers columns k x i)
     → ShowsActs p columns k i
-all_acts p columns d a b m k i decision da commits ab aborts bm missing mk closes = record {
-  decision = λ t. kept_decision p.number columns d k i (λ y g. mk y (bm y (ab y (da y g)))) (decision t);
+all_acts p columns at decision commits aborts missing d a b m k i is finds_d in_d da finds_a in_a ab finds_b in_b bm finds_m in_m mk closes = record {
+  decision = λ t c e there by in_it. found_shown k i decision _ (kept_found d k i decision (λ y g. mk y (bm y (ab y (da y g)))) in_d) (subst (λ (z : Column). FindsDecision p z decision) (one_column columns i at c is there) finds_d e t by in_it);
   markers = both;
-  missing = λ x has. kept_missing p.markers columns m k x i mk (missing x has);
+  missing = λ x has c e there by wrote none. found_shown k i missing _ (kept_found m k i missing mk in_m) (subst (λ (z : Column). FindsMissing p.markers z x missing) (one_column columns i at c is there) (finds_m x has) e by wrote none);
   closes = closes;
 }
   where
+    of_kind : (kind : Kind) (found : Option Sign) → FindsEnds p.markers at kind found → IsShown k i found → ShowsEnds p.markers columns k i kind
+    of_kind kind found finds shown = λ c e there by some. found_shown k i found _ shown (subst (λ (z : Column). FindsEnds p.markers z kind found) (one_column columns i at c is there) finds e by some)
+
     both : (kind : Kind) → ShowsEnds p.markers columns k i kind
-    both Commit = kept_ends p.markers columns a k i Commit (λ y g. mk y (bm y (ab y g))) commits
-    both Abort = kept_ends p.markers columns b k i Abort (λ y g. mk y (bm y g)) aborts
+    both Commit = of_kind Commit commits finds_a (kept_found a k i commits (λ y g. mk y (bm y (ab y g))) in_a)
+    both Abort = of_kind Abort aborts finds_b (kept_found b k i aborts (λ y g. mk y (bm y g)) in_b)
 
 pub acts_next : (p : PartLog) (columns : List Column) (old new : List Mark) (i : ℕ) → Keeps old new → ShowsActs p columns new i
     → ((j : ℕ) → j < i → ShowsActs p columns old j) → (j : ℕ) → j < i + 1 → ShowsActs p columns new j
@@ -309,15 +316,6 @@ of_log logs every place q r has_q named t p x w i alone plain has at by of =
 -- those of the name are yet to come
 abbrev pub IsAhead : List PartLog → ℕ → PartitionName → Type 0
 IsAhead logs k name = (q : PartLog) → Has logs q → part_name q ≡ name → Has (drop k logs) q
-
-pub ahead_next : (logs : List PartLog) (k : ℕ) (d q : PartLog) (name : PartitionName) → k < length logs → q ≡ slice_index_or logs k d → part_name q ≢ name → IsAhead logs k name → IsAhead logs (k + 1) name
-ahead_next logs k d q name lt is other inv x h named = elim (drop_has logs k d x lt (inv x h named)) [
-  | inl here ↦ absurd (other (ap part_name (is ∙ here) ∙ named))
-  | inr more ↦ more
-]
-
-pub of_none : (logs : List PartLog) (every : List Column) (place : Place) (k : ℕ) (r : Option ℕ) → length logs ≤ k → IsAhead logs k place.partition → IsOfRecordAt logs every r place
-of_none logs every place k r le inv p x w i alone plain has at by of = absurd (none_left logs k p le (inv p alone.has alone.named))
 
 pub none_any : (logs : List PartLog) (every : List Column) (r : Option ℕ) (place : Place) → IsOfRecordAt logs every None place → IsOfRecordAt logs every r place
 none_any logs every r place h p x w i alone plain has at by of = absurd (h p x w i alone plain has at by of)

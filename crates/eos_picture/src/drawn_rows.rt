@@ -4,7 +4,7 @@ ghost use Rattle.std.specs.Prelude.{◌≡◌, ◌≤◌, ◌<◌, ◌++◌, ℕ
 ghost use Rattle.std.specs.Option.{option_copied};
 ghost use Rattle.eos_picture.specs.Titles.{mark_offset, time_at};
 ghost use Rattle.eos_picture.specs.Told.{tellings, AreTold};
-ghost use Rattle.eos_picture.specs.steps.Tellings.{IsToldOf, IsToldIf};
+ghost use Rattle.eos_picture.specs.steps.Tellings.{IsToldIf};
 
 use crate::canvas::{Canvas, moved};
 use crate::cells::{
@@ -196,23 +196,6 @@ fn draw_shape(
     Ok((at, size))
 }
 
-/// The same, and what is told of the mark.
-fn draw_mark(
-    canvas: &mut Canvas,
-    place: DrawnRow<'_>,
-    column: usize,
-    marked: Marked<'_>,
-    drawn: Cell,
-) -> Result<(), AllocError>
-    requires { column < length place.cells.now }
-    ensures { OnOk result (IsToldOf (tellings canvas.old.shapes.items) marked.entry.name.now (option_copied marked.entry.column) marked.entry.time marked.entry.mark.now (tellings canvas.new.shapes.items)) }
-{
-    let (at, size) = draw_shape(canvas, place, column, marked.mark, drawn)?;
-    let text = told_of(canvas.alloc, marked, place.cells[column].is_open)?;
-    canvas.told(at, size, text)?;
-    Ok(())
-}
-
 /// A row, the transactions of its picture, and the times of its records.
 #[derive(Clone, Copy)]
 pub(crate) struct Telling<'a> {
@@ -238,7 +221,7 @@ impl<'a> Telling<'a> {
     }
 }
 
-/// The same, if there is room; a mark of the fault always has some.
+/// Draws the mark and what is told of it, if there is room; a mark of the fault always has some.
 fn draw_if_room(
     canvas: &mut Canvas,
     place: DrawnRow<'_>,
@@ -252,7 +235,9 @@ fn draw_if_room(
     if drawn.is_full(marked.mark) {
         return Ok(());
     }
-    draw_mark(canvas, place, column, marked, drawn)?;
+    let (at, size) = draw_shape(canvas, place, column, marked.mark, drawn)?;
+    let text = told_of(canvas.alloc, marked, place.cells[column].is_open)?;
+    canvas.told(at, size, text)?;
     Ok(())
 }
 

@@ -3,7 +3,7 @@
 ghost use Rattle.std.specs.Prelude.{◌≡◌, ◌≢◌, Some, true, false};
 ghost use Rattle.eos_base.specs.Members.{Has};
 ghost use Rattle.eos_fold.specs.declared.item.Item.{Item};
-ghost use Rattle.eos_picture.specs.Ends.{is_kind as is_kind_of, is_end as is_end_of, ends, HasNone};
+ghost use Rattle.eos_picture.specs.Ends.{is_end as is_end_of, ends, HasNone};
 ghost use Rattle.eos_picture.specs.Order.{is_writer as is_writer_of};
 
 use crate::mark::Column;
@@ -19,19 +19,10 @@ pub(crate) struct End {
     pub kind: Kind,
 }
 
-fn is_kind(kind: Kind, other: Kind) -> bool
-    ensures { result ≡ is_kind_of kind other }
-{
-    match (kind, other) {
-        (Kind::Commit, Kind::Commit) | (Kind::Abort, Kind::Abort) => true,
-        _ => false,
-    }
-}
-
 fn is_end(marker: &Marker, end: End) -> bool
     ensures { result ≡ is_end_of end.producer end.epoch end.kind marker.now }
 {
-    marker.producer == end.producer && marker.epoch == end.epoch && is_kind(marker.kind, end.kind)
+    marker.producer == end.producer && marker.epoch == end.epoch && marker.kind == end.kind
 }
 
 /// How many end markers of a partition say this.

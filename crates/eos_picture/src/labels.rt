@@ -1,7 +1,6 @@
 //! Short texts.
 
-ghost use Rattle.std.specs.Prelude.{◌≡◌, ◌++◌, codes, OnOk, string_bytes};
-ghost use Rattle.std.specs.Fmt.{signed_decimal};
+ghost use Rattle.std.specs.Prelude.{◌≡◌, OnOk, string_bytes};
 ghost use Rattle.eos_text.specs.Adding.{Adds};
 ghost use Rattle.eos_picture.specs.Titles.{passed_text};
 
@@ -81,34 +80,17 @@ pub(crate) fn commit_label(
     Ok(out)
 }
 
-fn push_range(out: &mut String, from: &i64, to: &i64) -> Result<(), AllocError>
-    ensures { OnOk result (Adds (string_bytes out.old) (string_bytes out.new) ((codes "[" ++ signed_decimal from.now) ++ ((codes "," ++ signed_decimal to.now) ++ codes ")"))) }
-{
-    push_value(out, "[", from)?;
-    push_value(out, ",", to)?;
-    push_text(out, ")")?;
-    Ok(())
-}
-
-fn push_back(out: &mut String, from: &i64, to: &i64) -> Result<(), AllocError>
-    ensures { OnOk result (Adds (string_bytes out.old) (string_bytes out.new) ((codes "" ++ signed_decimal from.now) ++ (codes " back to " ++ signed_decimal to.now))) }
-{
-    push_value(out, "", from)?;
-    push_value(out, " back to ", to)?;
-    Ok(())
-}
-
 /// Adds the offsets that a commit passed.
 pub(crate) fn push_passed(out: &mut String, from: &i64, to: &i64) -> Result<(), AllocError>
     ensures { OnOk result (Adds (string_bytes out.old) (string_bytes out.new) (passed_text from.now to.now)) }
 {
     if *from == *to {
-        return push_value(out, "at ", to);
+        return write!(out, "at {to}");
     }
     if *from < *to {
-        return push_range(out, from, to);
+        return write!(out, "[{from},{to})");
     }
-    push_back(out, from, to)
+    write!(out, "{from} back to {to}")
 }
 
 /// The offsets that a commit passed.

@@ -1,7 +1,8 @@
 //! The marks of a row: which are of the fault, and the places of the fault at which none stands.
 
-ghost use Rattle.std.specs.Prelude.{◌≡◌, ◌<◌, Some, length, slice_get, OnOk};
-ghost use Rattle.eos_picture.specs.Marks.{IsTrueAt, AreTrue};
+ghost use Rattle.std.specs.Prelude.{◌≡◌, ◌<◌, Some, length, slice_get, IfSome, OnOk};
+ghost use Rattle.eos_fold.specs.Parts.{PartLog};
+ghost use Rattle.eos_picture.specs.Marks.{IsTrueAt, IsTrueOf, AreTrue};
 ghost use Rattle.eos_picture.specs.Signs.{IsOfWriter};
 ghost use Rattle.eos_picture.specs.Whole.{IsAt, Shows};
 ghost use Rattle.eos_picture.specs.steps.Kept.{Keeps};
@@ -146,33 +147,31 @@ pub(crate) fn push_spots(
     ensures keeps { OnOk result (Keeps marks.old.items marks.new.items) }
 {
     for spot in scene.spots {
-        push_absent(marks, scene, part, spot)?;
+        if let Some(mark) = absent_of(marks.as_slice(), scene, part, spot) {
+            marks.push(mark)?;
+        }
     }
     Ok(())
 }
 
-/// The place, if it is in the partition and nothing stands there.
-fn push_absent(
-    marks: &mut Vec<Mark>,
-    scene: Scene<'_>,
-    part: &Part,
-    spot: &Spot,
-) -> Result<(), AllocError>
-    ensures so { AreTrue part.now scene.entry.columns.now marks.old.items → OnOk result (AreTrue part.now scene.entry.columns.now marks.new.items) }
-    ensures keeps { OnOk result (Keeps marks.old.items marks.new.items) }
+/// The mark of the place, if it is in the partition and nothing stands there.
+fn absent_of(marks: &[Mark], scene: Scene<'_>, part: &Part, spot: &Spot) -> Option<Mark>
+    ensures { IfSome result (IsTrueOf part.now scene.entry.columns.now) }
 {
-    if !is_named(part, &spot.name)
-        || has_spot(marks.as_slice(), scene, spot.at)
-        || is_at_end(scene, spot)
-    {
-        return Ok(());
+    if !is_named(part, &spot.name) || has_spot(marks, scene, spot.at) || is_at_end(scene, spot) {
+        return None;
     }
     match spot.at {
-        At::Offset(offset) => push_bare(marks, scene, part, offset),
-        At::Marker { end, offset } => push_stray(marks, scene, part, end, offset),
-        At::Transaction { producer, epoch } => push_unseen(marks, scene, part, producer, epoch),
-        At::Open { producer, epoch } => push_unseen(marks, scene, part, producer, epoch),
-        At::Passing(_) | At::Near(_) => Ok(()),
+        At::Offset(offset) => Some(Mark {
+            column: scene.columns.len(),
+            sign: Sign::Spot(Some(offset)),
+            is_of_fault: true,
+            offset: None,
+        }),
+        At::Marker { end, offset } => stray_of(scene, part, end, offset),
+        At::Transaction { producer, epoch } => Some(unseen_of(scene, (producer, epoch))),
+        At::Open { producer, epoch } => Some(unseen_of(scene, (producer, epoch))),
+        At::Passing(_) | At::Near(_) => None,
     }
 }
 
@@ -194,25 +193,6 @@ fn is_at_end(scene: Scene<'_>, spot: &Spot) -> bool {
     false
 }
 
-/// A place at which nothing of these transactions stands.
-fn push_bare(
-    marks: &mut Vec<Mark>,
-    scene: Scene<'_>,
-    part: &Part,
-    offset: u64,
-) -> Result<(), AllocError>
-    ensures so { AreTrue part.now scene.entry.columns.now marks.old.items → OnOk result (AreTrue part.now scene.entry.columns.now marks.new.items) }
-    ensures keeps { OnOk result (Keeps marks.old.items marks.new.items) }
-{
-    marks.push(Mark {
-        column: scene.columns.len(),
-        sign: Sign::Spot(Some(offset)),
-        is_of_fault: true,
-        offset: None,
-    })?;
-    Ok(())
-}
-
 /// The column of the transaction whose data have this producer id and epoch, or the one behind the last.
 fn own_column(columns: &[Column], writer: (i64, i16)) -> usize
     ensures { (c : Column) → slice_get columns.now result ≡ Some c → IsOfWriter (Some c) writer }
@@ -224,50 +204,32 @@ fn own_column(columns: &[Column], writer: (i64, i16)) -> usize
 }
 
 /// End markers that no transaction was decided to have, with the one whose data have their epoch.
-fn push_stray(
-    marks: &mut Vec<Mark>,
-    scene: Scene<'_>,
-    part: &Part,
-    end: End,
-    offset: Option<u64>,
-) -> Result<(), AllocError>
-    ensures so { AreTrue part.now scene.entry.columns.now marks.old.items → OnOk result (AreTrue part.now scene.entry.columns.now marks.new.items) }
-    ensures keeps { OnOk result (Keeps marks.old.items marks.new.items) }
+fn stray_of(scene: Scene<'_>, part: &Part, end: End, offset: Option<u64>) -> Option<Mark>
+    ensures { IfSome result (IsTrueOf part.now scene.entry.columns.now) }
 {
     let count = count_ends(part, end);
     if count == 0 {
-        return Ok(());
+        return None;
     }
-    let column = own_column(scene.columns, (end.producer, end.epoch));
-    marks.push(Mark {
-        column,
+    Some(Mark {
+        column: own_column(scene.columns, (end.producer, end.epoch)),
         sign: Sign::Marker {
             kind: end.kind,
             count,
         },
         is_of_fault: true,
         offset: offset.or(first_end(part, end)),
-    })?;
-    Ok(())
+    })
 }
 
 /// What a transaction didn't do, of which nothing says what it should have been.
-fn push_unseen(
-    marks: &mut Vec<Mark>,
-    scene: Scene<'_>,
-    part: &Part,
-    producer: i64,
-    epoch: i16,
-) -> Result<(), AllocError>
-    ensures so { AreTrue part.now scene.entry.columns.now marks.old.items → OnOk result (AreTrue part.now scene.entry.columns.now marks.new.items) }
-    ensures keeps { OnOk result (Keeps marks.old.items marks.new.items) }
+fn unseen_of(scene: Scene<'_>, writer: (i64, i16)) -> Mark
+    ensures { (p : PartLog) → IsTrueOf p scene.entry.columns.now result }
 {
-    let column = column_of(scene.columns, (producer, epoch));
-    marks.push(Mark {
-        column: column.unwrap_or(scene.columns.len()),
+    Mark {
+        column: own_column(scene.columns, writer),
         sign: Sign::Spot(None),
         is_of_fault: true,
         offset: None,
-    })?;
-    Ok(())
+    }
 }

@@ -4,7 +4,7 @@ ghost use Rattle.std.specs.Prelude.{◌≡◌, ◌≢◌, Some, true, false, cod
 ghost use Rattle.std.specs.Option.{option_copied};
 ghost use Rattle.eos_fold.specs.Parts.{part_name};
 ghost use Rattle.eos_picture.specs.Order.{is_of_name};
-ghost use Rattle.eos_picture.specs.Window.{name_of, named_by};
+ghost use Rattle.eos_picture.specs.Window.{named_by};
 
 use bytes::Bytes;
 use eos_base::PartitionName;
@@ -49,10 +49,13 @@ pub(crate) fn is_named(part: &Part, name: &PartitionName) -> bool
     is_at(part, name.topic.as_slice(), name.partition)
 }
 
-/// Whether it is the partition that the fault's line names, if that names one.
-fn names(fault: &Fault, part: &Part) -> bool
-    ensures { result ≡ is_of_name (name_of fault.now) part.now }
+/// Whether it is the partition that the fault's line names, if there is a fault and that names one.
+pub(crate) fn is_named_by(fault: Option<&Fault>, part: &Part) -> bool
+    ensures { result ≡ is_of_name (named_by (option_copied fault.entry)) part.now }
 {
+    let Some(fault) = fault else {
+        return false;
+    };
     match fault {
         Fault::Partition(fault) => is_at(part, fault.topic.as_slice(), fault.partition),
         Fault::Log(fault) => is_at(part, b"__transaction_state".as_slice(), fault.partition),
@@ -65,15 +68,5 @@ fn names(fault: &Fault, part: &Part) -> bool
             None => false,
             Some(at) => is_named(part, &at.partition),
         },
-    }
-}
-
-/// The same, of a fault, if there is one.
-pub(crate) fn is_named_by(fault: Option<&Fault>, part: &Part) -> bool
-    ensures { result ≡ is_of_name (named_by (option_copied fault.entry)) part.now }
-{
-    match fault {
-        None => false,
-        Some(fault) => names(fault, part),
     }
 }

@@ -8,20 +8,15 @@ use crate::spots::{Spot, name_of, push_offset};
 use eos_claims::Place;
 use eos_commits::is_visible;
 use eos_evidence::App;
-use eos_kept::{ItemRef, Part};
+use eos_kept::Part;
 use eos_sought::{is_of_offsets_log, passes};
 use std::alloc::AllocError;
 
-/// Whether the record is a visible commit of the application's group that goes past the input.
-fn is_past(app: &App, input: &Place, part: &Part, item: &ItemRef<'_>) -> bool {
-    is_visible(item.fate()) && passes(app.group.as_bytes(), input, part, item)
-}
-
-/// The offset of the first such record of a partition.
+/// The offset of a partition's first visible commit of the application's group that goes past the input.
 fn first_past(app: &App, input: &Place, part: &Part) -> Option<u64> {
     let mut items = part.items().cursor();
     while let Some(item) = items.next() {
-        if is_past(app, input, part, &item) {
+        if is_visible(item.fate()) && passes(app.group.as_bytes(), input, part, &item) {
             return Some(item.offset());
         }
     }

@@ -109,7 +109,7 @@ fn push_at(spots: &mut Vec<Spot>, name: &PartitionName, at: At) -> Result<(), Al
     Ok(())
 }
 
-/// The end markers of this producer id and epoch.
+/// The end markers of this producer id and epoch, those of each kind by themselves.
 fn push_strays(
     spots: &mut Vec<Spot>,
     logs: &[Part],
@@ -117,20 +117,16 @@ fn push_strays(
     producer: i64,
     epoch: i16,
 ) -> Result<(), AllocError> {
-    let commit = End {
-        producer,
-        epoch,
-        kind: Kind::Commit,
-    };
-    let abort = End {
-        producer,
-        epoch,
-        kind: Kind::Abort,
-    };
     for part in logs {
         if is_named(part, name) {
-            push_stray(spots, part, name, commit)?;
-            push_stray(spots, part, name, abort)?;
+            for kind in [Kind::Commit, Kind::Abort] {
+                let end = End {
+                    producer,
+                    epoch,
+                    kind,
+                };
+                push_stray(spots, part, name, end)?;
+            }
         }
     }
     Ok(())
@@ -152,20 +148,6 @@ fn push_stray(
 // ---- in a partition by itself
 
 /// What stands at the place of a fault of the partition where that is no data record: an end marker, or nothing yet.
-fn push_beside(
-    spots: &mut Vec<Spot>,
-    part: &Part,
-    name: &PartitionName,
-    fault: &PartitionFault,
-) -> Result<(), AllocError>
-    ensures stays { (first : Option Place) → StartsAt spots.old.items first → OnOk result (StartsAt spots.new.items first) }
-{
-    match end_of(part, fault) {
-        Some(at) => push_at(spots, name, at),
-        None => push_at(spots, name, At::Near(fault.offset)),
-    }
-}
-
 fn push_besides(
     spots: &mut Vec<Spot>,
     logs: &[Part],
@@ -176,7 +158,8 @@ fn push_besides(
     let name = name_in(fault)?;
     for part in logs {
         if is_named(part, &name) {
-            push_beside(spots, part, &name, fault)?;
+            let at = end_of(part, fault).unwrap_or(At::Near(fault.offset));
+            push_at(spots, &name, at)?;
         }
     }
     Ok(())

@@ -28,9 +28,7 @@ pub(crate) struct Marked<'a> {
 pub(crate) fn time_at(times: &[(u64, i64)], offset: Option<u64>) -> Option<i64>
     ensures { result ≡ time_at times.now offset }
 {
-    let Some(offset) = offset else {
-        return None;
-    };
+    let offset = offset?;
     for time in times {
         if time.0 == offset {
             return Some(time.1);
@@ -68,11 +66,7 @@ fn push_offset(out: &mut String, offset: Option<u64>) -> Result<(), AllocError>
 {
     match offset {
         None => push_text(out, " "),
-        Some(offset) => {
-            push_value(out, ":", &offset)?;
-            push_text(out, " ")?;
-            Ok(())
-        }
+        Some(offset) => write!(out, ":{offset} "),
     }
 }
 
@@ -110,9 +104,7 @@ fn push_commit(
 fn push_words(out: &mut String, label: &str, words: &str) -> Result<(), AllocError>
     ensures { OnOk result (Adds (string_bytes out.old) (string_bytes out.new) (label.now ++ words.now)) }
 {
-    push_text(out, label)?;
-    push_text(out, words)?;
-    Ok(())
+    write!(out, "{label}{words}")
 }
 
 fn push_count(out: &mut String, count: u64) -> Result<(), AllocError>
@@ -121,9 +113,7 @@ fn push_count(out: &mut String, count: u64) -> Result<(), AllocError>
     if count <= 1 {
         return push_text(out, "");
     }
-    push_value(out, ", ", &count)?;
-    push_text(out, " times")?;
-    Ok(())
+    write!(out, ", {count} times")
 }
 
 fn push_inputs(out: &mut String, fate: Fate, from: &i64, to: &i64) -> Result<(), AllocError>
@@ -190,14 +180,11 @@ fn push_column(alloc: Global, out: &mut String, column: Option<&Column>) -> Resu
 fn push_when(out: &mut String, time: Option<i64>) -> Result<(), AllocError>
     ensures { OnOk result (Adds (string_bytes out.old) (string_bytes out.new) (when_text time)) }
 {
-    match time {
-        None => push_text(out, ""),
-        Some(time) => {
-            push_text(out, ", at ")?;
-            push_time(out, time)?;
-            Ok(())
-        }
-    }
+    let Some(time) = time else {
+        return push_text(out, "");
+    };
+    push_text(out, ", at ")?;
+    push_time(out, time)
 }
 
 fn fault_words(is_of_fault: bool) -> &'static str

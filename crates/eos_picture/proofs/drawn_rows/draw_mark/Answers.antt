@@ -1,9 +1,0 @@
-use Rattle.std.specs.Option.{option_copied}
-use Rattle.eos_picture.specs.Told.{tellings}
-use Rattle.eos_picture.proofs.Tellings.{told_mark}
-use Rattle.eos_picture.proofs.drawn_rows.draw_mark.Goals as goal
-
-pub returns : goal.returns
-returns c =
-    told_mark (tellings c.args.canvas.now.shapes.items) (tellings c.draw_shape.new.canvas.shapes.items) _ c.args.marked.name.now (option_copied c.args.marked.column) c.args.marked.time c.args.marked.mark.now _ _
-    c.in_ok-at.ensures c.in_ok-text.ensures c.in_ok-told.ensures
