@@ -119,7 +119,7 @@ up_less x y z up less = go (place_cmp x y) refl up
     go Equal e u = place_total.congr x y z e ∙ less
     go Greater e u = absurd cc
 
-by_source_less : (f g : OutputFault) → place_cmp f.source g.source ≡ Less → fault_cmp f g ≡ Less
+pub by_source_less : (f g : OutputFault) → place_cmp f.source g.source ≡ Less → fault_cmp f g ≡ Less
 by_source_less f g e = rw (e) refl
 
 -- ---- one source further

@@ -24,3 +24,5 @@ pub mod NextSource
 pub mod NumbersThere
 pub mod ShownClaims
 pub mod SinksTaken
+pub mod Restricted
+pub mod RangesJoined

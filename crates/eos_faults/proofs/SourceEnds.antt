@@ -23,7 +23,7 @@ use Rattle.eos_faults.specs.steps.BySource.{AllFrom, IsEndOf, IsNext, by_lent, i
 use Rattle.eos_faults.proofs.SortedClaims.{rise_in_order}
 
 -- of two places that aren't in falling order, where the first is behind this one, so is the second
-behind : (s p q : Place) → place_cmp s p ≡ Less → is_lt (place_cmp q p) ≡ false → place_cmp s q ≡ Less
+pub behind : (s p q : Place) → place_cmp s p ≡ Less → is_lt (place_cmp q p) ≡ false → place_cmp s q ≡ Less
 behind s p q less up = go (place_cmp q p) refl up
   where
     go : (o : Ordering) → place_cmp q p ≡ o → is_lt o ≡ false → place_cmp s q ≡ Less

@@ -7,3 +7,4 @@ pub mod Found
 pub mod Walks
 pub mod BySource
 pub mod SourceClaims
+pub mod Ranges

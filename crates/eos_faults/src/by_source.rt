@@ -94,7 +94,7 @@ fn hand_on<'a, S: FaultSink>(
 pub(crate) fn faults_by_source<'a, S: FaultSink>(
     alloc: Global,
     group: Option<&'a GroupId>,
-    tables: &Tables<'a>,
+    tables: &Tables<'_, 'a>,
     sink: &mut S,
 ) -> Result<(), AllocError>
     ensures { OnOk result ((list : List OutputFault) × TakesAll S.takes sink.old (map Lineage (map (in_group (option_map (λ g. g.now) group.entry)) list)) sink.new

@@ -12,42 +12,38 @@ ghost use Rattle.eos_verdict.specs.declared.lineage_fault.LineageFault.{LineageF
 ghost use Rattle.eos_verdict.specs.declared.verdict.Fault.TheVariants.{Lineage};
 ghost use Rattle.eos_faults.specs.LineageFaults.{AreLineageFaults};
 ghost use Rattle.eos_faults.specs.Sinks.{TakesAll};
-ghost use Rattle.eos_faults.specs.steps.Tables.{AreTables};
+ghost use Rattle.eos_faults.specs.steps.Tables.{AreBooks};
 
-use crate::by_source::faults_by_source;
+use crate::by_range::faults_by_range;
 use crate::commits::{offsets_of, reached_by};
-use crate::reading::{claims_of, inputs_of};
 use crate::sink::FaultSink;
-use crate::tables::Tables;
-use eos_base::Sorted;
+use crate::tables::Books;
 use eos_commits::{CommitTable, TopicSet};
 use eos_evidence::{App, GroupId, Spec};
 use eos_kept::Part;
 use std::alloc::{AllocError, Global};
 
 /// What an application reads, commits and writes, in these logs.
-fn tables_of<'a>(
+fn books_of<'a>(
     alloc: Global,
     app: &'a App,
     table: &CommitTable<'a>,
     parts: &'a [Part],
-) -> Result<Tables<'a>, AllocError>
+) -> Result<Books<'a>, AllocError>
     requires { (apps : List App) × IsTableOf apps parts.now table.now × Has apps app.now }
-    ensures { AreInOrder parts.now → IfOk result (AreTables (application_of app.now parts.now)) }
+    ensures { AreInOrder parts.now → IfOk result (AreBooks (application_of app.now parts.now)) }
 {
     let sources = TopicSet::of(alloc, app.sources.as_slice())?;
     let outputs = TopicSet::of(alloc, app.outputs.as_slice())?;
-    let inputs = inputs_of(alloc, &sources, parts)?;
-    let claims = claims_of(alloc, &outputs, parts)?;
     let commits = table.commits_of(alloc, app)?;
     let offsets = offsets_of(alloc, commits.as_slice())?;
     let reached = reached_by(alloc, commits.as_slice())?;
-    Ok(Tables {
+    Ok(Books {
         sources,
-        inputs: Sorted::of(inputs),
+        outputs,
         offsets,
         reached,
-        claims: Sorted::of(claims),
+        parts,
     })
 }
 
@@ -67,8 +63,10 @@ fn group_of<'a>(apps: &[App], app: &'a App) -> Option<&'a GroupId>
 /// has the first alone. None where each application's outputs are exact; else the first is that of `check_lineage`.
 ///
 /// The parts are those of all topics, without a fault of their own, ordered by name. The work is that of `check_lineage` by one
-/// thread, and a walk along claims and inputs in order; the memory is that of all claims and inputs of one application, and of the faults
-/// of one source, whose names are lent.
+/// thread, and a walk along claims and inputs in order. The memory is that of the claims and inputs of a range of sources, some
+/// 128 MiB, or where an application's take more than sixteen times as much a sixteenth of them; those of one source are never parted.
+/// For each range all records that are kept are walked along, and before the first once more. Of the faults those of one source are
+/// held, whose names are lent.
 ///
 /// # Errors
 /// Only want of memory, here or in the sink, which may have taken some.
@@ -84,8 +82,8 @@ pub fn output_faults<'a, S: FaultSink>(
     let apps = spec.apps().as_slice();
     let table = CommitTable::of(alloc, apps, parts)?;
     for app in apps {
-        let tables = tables_of(alloc, app, &table, parts)?;
-        faults_by_source(alloc, group_of(apps, app), &tables, sink)?;
+        let books = books_of(alloc, app, &table, parts)?;
+        faults_by_range(alloc, group_of(apps, app), &books, sink)?;
     }
     Ok(())
 }

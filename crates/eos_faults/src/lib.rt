@@ -2,9 +2,10 @@
 //! least.
 //!
 //! Of a partition each place of its front shows its faults. Those of outputs are handed to a sink, source by source, as they are
-//! found.
+//! found; of an application's claims and inputs no more is held than those of one range of sources.
 #![tactic(auto)]
 
+mod by_range;
 mod by_source;
 mod claims;
 mod commits;
@@ -13,6 +14,7 @@ pub mod gathered_laws;
 mod lent;
 mod log_faults;
 mod outputs;
+mod ranges;
 mod reading;
 mod segments;
 mod shown_by_claims;

@@ -1,18 +1,20 @@
-//! The visible records of an application's topics: its inputs, and the claims that its outputs make.
+//! The visible records of an application's topics: its inputs, and the claims that its outputs make, of a range of sources.
 
-ghost use Rattle.std.specs.Prelude.{◌≡◌, ◌++◌, map, flat_map, IfOk, OnOk};
+ghost use Rattle.std.specs.Prelude.{◌≡◌, ◌++◌, map, filter, flat_map, option_map, IfOk, OnOk};
 ghost use Rattle.eos_fold.specs.Parts.{part_name};
 ghost use Rattle.eos_lineage.specs.steps.Walks.{input_at, inputs_at, claim_at as claims_of_item, claims_of_part};
 ghost use Rattle.eos_faults.specs.steps.Claimed.{claimed};
 ghost use Rattle.eos_faults.specs.steps.Plain.{claim_at, name_at, place_at};
+ghost use Rattle.eos_faults.specs.steps.Ranges.{is_source_within, is_within, listed};
 
 use crate::lent::{LentName, LentPlace, VisibleClaim};
+use crate::ranges::Range;
 use eos_claims::ClaimRef;
 use eos_commits::{TopicSet, is_visible};
 use eos_kept::{ItemRef, Part};
 use std::alloc::{AllocError, Global};
 
-fn name_of<'a>(part: &'a Part) -> LentName<'a>
+pub(crate) fn name_of<'a>(part: &'a Part) -> LentName<'a>
     ensures { name_at result ≡ part_name part.entry.now }
 {
     LentName {
@@ -21,30 +23,45 @@ fn name_of<'a>(part: &'a Part) -> LentName<'a>
     }
 }
 
-/// Puts the place of a record at the end, if it is visible.
+/// The place of a record, if it is visible.
+pub(crate) fn input_of<'a>(partition: LentName<'a>, item: &ItemRef<'_>) -> Option<LentPlace<'a>>
+    ensures { listed (option_map place_at result) ≡ input_at (name_at partition.entry) item.now }
+{
+    if !is_visible(item.fate()) {
+        return None;
+    }
+    Some(LentPlace {
+        partition,
+        offset: item.offset(),
+    })
+}
+
+/// Puts the place of a record at the end, if it is visible and in the range.
 fn push_input<'a>(
     all: &mut Vec<LentPlace<'a>>,
+    range: &Range<'_>,
     partition: LentName<'a>,
     item: &ItemRef<'_>,
 ) -> Result<(), AllocError>
-    ensures { OnOk result (map place_at all.new.items ≡ map place_at all.old.items ++ input_at (name_at partition.entry) item.now) }
+    ensures { OnOk result (map place_at all.new.items ≡ map place_at all.old.items ++ filter (is_within range.now) (input_at (name_at partition.entry) item.now)) }
 {
-    if is_visible(item.fate()) {
-        all.push(LentPlace {
-            partition,
-            offset: item.offset(),
-        })?;
+    let Some(input) = input_of(partition, item) else {
+        return Ok(());
+    };
+    if range.has(&input) {
+        all.push(input)?;
     }
     Ok(())
 }
 
-/// Puts the places of a partition's visible records at the end, if it is of one of these topics.
+/// Puts the places of a partition's visible records that are in the range at the end, if it is of one of these topics.
 fn push_inputs<'a>(
     all: &mut Vec<LentPlace<'a>>,
     sources: &TopicSet<'_>,
+    range: &Range<'_>,
     part: &'a Part,
 ) -> Result<(), AllocError>
-    ensures { OnOk result (map place_at all.new.items ≡ map place_at all.old.items ++ inputs_at sources.now part.now) }
+    ensures { OnOk result (map place_at all.new.items ≡ map place_at all.old.items ++ filter (is_within range.now) (inputs_at sources.now part.now)) }
 {
     if !sources.has(part.topic().as_slice()) {
         return Ok(());
@@ -52,22 +69,23 @@ fn push_inputs<'a>(
     let name = name_of(part);
     let mut records = part.items().cursor();
     while let Some(item) = records.next() {
-        push_input(all, name, &item)?;
+        push_input(all, range, name, &item)?;
     }
     Ok(())
 }
 
-/// The places of the visible records of these topics, in the order of the parts.
+/// The places of the visible records of these topics that are in the range, in the order of the parts.
 pub(crate) fn inputs_of<'a>(
     alloc: Global,
     sources: &TopicSet<'_>,
+    range: &Range<'_>,
     parts: &'a [Part],
 ) -> Result<Vec<LentPlace<'a>>, AllocError>
-    ensures { IfOk result (λ all. map place_at all.items ≡ flat_map (inputs_at sources.now) parts.now) }
+    ensures { IfOk result (λ all. map place_at all.items ≡ filter (is_within range.now) (flat_map (inputs_at sources.now) parts.now)) }
 {
     let mut all = Vec::new(alloc);
     for part in parts {
-        push_inputs(&mut all, sources, part)?;
+        push_inputs(&mut all, sources, range, part)?;
     }
     Ok(all)
 }
@@ -94,35 +112,48 @@ fn visible_claim<'a>(
     }
 }
 
-/// Puts the claim of a record at the end, if it is visible and one.
-fn push_claim<'a>(
-    all: &mut Vec<VisibleClaim<'a>>,
-    partition: LentName<'a>,
-    item: ItemRef<'a>,
-) -> Result<(), AllocError>
-    ensures { OnOk result (map claim_at all.new.items ≡ map claim_at all.old.items ++ claims_of_item (name_at partition.entry) item.entry) }
+/// The claim of a record, if it is visible and one.
+pub(crate) fn claim_of<'a>(partition: LentName<'a>, item: ItemRef<'a>) -> Option<VisibleClaim<'a>>
+    ensures { listed (option_map claim_at result) ≡ claims_of_item (name_at partition.entry) item.entry }
 {
     if !is_visible(item.fate()) {
-        return Ok(());
+        return None;
     }
     let at = LentPlace {
         partition,
         offset: item.offset(),
     };
     let writer = item.writer();
-    if let Some(claim) = item.into_claim() {
-        all.push(visible_claim(&claim, at, writer))?;
+    let claim = item.into_claim()?;
+    Some(visible_claim(&claim, at, writer))
+}
+
+/// Puts the claim of a record at the end, if it is visible and one, and its source in the range.
+fn push_claim<'a>(
+    all: &mut Vec<VisibleClaim<'a>>,
+    range: &Range<'_>,
+    partition: LentName<'a>,
+    item: ItemRef<'a>,
+) -> Result<(), AllocError>
+    ensures { OnOk result (map claim_at all.new.items ≡ map claim_at all.old.items ++ filter (is_source_within range.now) (claims_of_item (name_at partition.entry) item.entry)) }
+{
+    let Some(claim) = claim_of(partition, item) else {
+        return Ok(());
+    };
+    if range.has(&claim.source) {
+        all.push(claim)?;
     }
     Ok(())
 }
 
-/// Puts the claims of a partition at the end, if it is of one of these topics.
+/// Puts the claims of a partition whose sources are in the range at the end, if it is of one of these topics.
 fn push_claims<'a>(
     all: &mut Vec<VisibleClaim<'a>>,
     outputs: &TopicSet<'_>,
+    range: &Range<'_>,
     part: &'a Part,
 ) -> Result<(), AllocError>
-    ensures { OnOk result (map claim_at all.new.items ≡ map claim_at all.old.items ++ claims_of_part outputs.now part.now) }
+    ensures { OnOk result (map claim_at all.new.items ≡ map claim_at all.old.items ++ filter (is_source_within range.now) (claims_of_part outputs.now part.now)) }
 {
     if !outputs.has(part.topic().as_slice()) {
         return Ok(());
@@ -130,22 +161,23 @@ fn push_claims<'a>(
     let name = name_of(part);
     let mut records = part.items().cursor();
     while let Some(item) = records.next() {
-        push_claim(all, name, item)?;
+        push_claim(all, range, name, item)?;
     }
     Ok(())
 }
 
-/// The claims of the visible records of these topics, in the order of the parts.
+/// The claims of the visible records of these topics whose sources are in the range, in the order of the parts.
 pub(crate) fn claims_of<'a>(
     alloc: Global,
     outputs: &TopicSet<'_>,
+    range: &Range<'_>,
     parts: &'a [Part],
 ) -> Result<Vec<VisibleClaim<'a>>, AllocError>
-    ensures { IfOk result (λ all. map claim_at all.items ≡ flat_map (claims_of_part outputs.now) parts.now) }
+    ensures { IfOk result (λ all. map claim_at all.items ≡ filter (is_source_within range.now) (flat_map (claims_of_part outputs.now) parts.now)) }
 {
     let mut all = Vec::new(alloc);
     for part in parts {
-        push_claims(&mut all, outputs, part)?;
+        push_claims(&mut all, outputs, range, part)?;
     }
     Ok(all)
 }

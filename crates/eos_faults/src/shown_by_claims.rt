@@ -83,7 +83,7 @@ fn push_numbered<'a>(
 /// What the claims of a source show.
 fn push_claims<'a>(
     faults: &mut Vec<LentFault<'a>>,
-    tables: &Tables<'a>,
+    tables: &Tables<'_, 'a>,
     known: Known,
     claims: &[VisibleClaim<'a>],
 ) -> Result<(), AllocError>
@@ -149,7 +149,7 @@ fn first_lacking(known: Known, claims: &[VisibleClaim<'_>]) -> Option<u32>
 /// What these claims of a source show, and what the inputs that stand there lack, as it is found.
 pub(crate) fn found<'a>(
     alloc: Global,
-    tables: &Tables<'a>,
+    tables: &Tables<'_, 'a>,
     source: &LentPlace<'a>,
     claims: &[VisibleClaim<'a>],
     inputs: &[LentPlace<'a>],

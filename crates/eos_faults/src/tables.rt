@@ -10,16 +10,25 @@ use crate::commits::{Offset, Offsets, Reached, offset_in, pass_key, reach_in};
 use crate::lent::{LentPlace, VisibleClaim};
 use eos_base::Sorted;
 use eos_commits::TopicSet;
+use eos_kept::Part;
 
-/// What an application reads, commits and writes.
+/// What an application reads, commits and writes, and the logs.
 #[derive(Drop)]
-pub(crate) struct Tables<'a> {
-    /// The topics that it reads.
+pub(crate) struct Books<'a> {
+    /// The topics that it reads, and those that it writes.
     pub sources: TopicSet<'a>,
-    /// The visible records of these.
-    pub inputs: Sorted<LentPlace<'a>>,
+    pub outputs: TopicSet<'a>,
     pub offsets: Offsets<'a>,
     pub reached: Reached<'a>,
+    pub parts: &'a [Part],
+}
+
+/// The visible records of the topics that an application reads, and the claims of those that it writes, as far as their sources are
+/// of one range.
+#[derive(Drop)]
+pub(crate) struct Tables<'b, 'a> {
+    pub books: &'b Books<'a>,
+    pub inputs: Sorted<LentPlace<'a>>,
     pub claims: Sorted<VisibleClaim<'a>>,
 }
 
@@ -42,23 +51,23 @@ pub(crate) struct Known {
     pub is_committed: bool,
 }
 
-pub(crate) fn known_of<'a>(tables: &Tables<'a>, source: &LentPlace<'a>, is_input: bool) -> Known
+pub(crate) fn known_of<'a>(tables: &Tables<'_, 'a>, source: &LentPlace<'a>, is_input: bool) -> Known
     ensures { (a : Application) → AreTables a tables.now → is_input ≡ is_input_of a (place_at source.now) → IsKnown a (place_at source.now) result }
 {
-    let committed = offset_in(&tables.offsets, &source.partition);
+    let committed = offset_in(&tables.books.offsets, &source.partition);
     Known {
-        is_source: tables.sources.has(source.partition.topic),
+        is_source: tables.books.sources.has(source.partition.topic),
         is_input,
         is_committed: goes_past(committed, source.offset),
     }
 }
 
 /// Whether the claim's transaction committed past its source.
-pub(crate) fn is_passed<'a>(tables: &Tables<'a>, claim: &VisibleClaim<'a>) -> bool
+pub(crate) fn is_passed<'a>(tables: &Tables<'_, 'a>, claim: &VisibleClaim<'a>) -> bool
     ensures { (a : Application) → AreTables a tables.now → result ≡ is_passed_of a (claim_at claim.now) }
 {
     match pass_key(claim.writer, claim.source.partition) {
         None => false,
-        Some(key) => goes_past(reach_in(&tables.reached, &key), claim.source.offset),
+        Some(key) => goes_past(reach_in(&tables.books.reached, &key), claim.source.offset),
     }
 }

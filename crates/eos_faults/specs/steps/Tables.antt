@@ -1,5 +1,5 @@
 -- The tables in which the claims of one application are looked up, and those that their sources and commits give.
-use Rattle.std.specs.Prelude.{◌≡◌, ℕ, ℤ, pos, Bool, false, ◌&&◌, Option, Some, None, option_map, List, map, fold, if◌then◌else◌, int_lt, IsPermutation}
+use Rattle.std.specs.Prelude.{◌≡◌, ℕ, ℤ, pos, Bool, false, ◌&&◌, Option, Some, None, option_map, List, map, flat_map, fold, if◌then◌else◌, int_lt, IsPermutation}
 use Rattle.std.specs.BTreeMap.{BTreeMap, get}
 use Rattle.std.specs.Ordering.{int_cmp, ordering_then, is_eq}
 use Rattle.std.specs.declared.cmp.Ordering.{Ordering}
@@ -9,6 +9,7 @@ use Rattle.eos_base.specs.Members.{Has}
 use Rattle.eos_claims.specs.declared.place.Place.{Place}
 use Rattle.eos_claims.specs.Outputs.{Writer, PlacedClaim, Commit, Application}
 use Rattle.eos_claims.specs.Candidates.{AreApart, is_by, is_source, is_input, is_committed}
+use Rattle.eos_lineage.specs.steps.Walks.{inputs_at, claims_of_part}
 use Rattle.eos_faults.specs.declared.lent.LentName.{LentName}
 use Rattle.eos_faults.specs.declared.lent.LentPlace.{LentPlace}
 use Rattle.eos_faults.specs.declared.lent.VisibleClaim.{VisibleClaim}
@@ -16,6 +17,7 @@ use Rattle.eos_faults.specs.contracts.lent.VisibleClaimOrd.TheImpl.{ghosts as cl
 use Rattle.eos_faults.specs.declared.commits.Offset.{Offset}
 use Rattle.eos_faults.specs.declared.commits.PassKey.{PassKey}
 use Rattle.eos_faults.specs.declared.tables.Known.{Known}
+use Rattle.eos_faults.specs.declared.tables.Books.{Books}
 use Rattle.eos_faults.specs.declared.tables.Tables.{Tables}
 use Rattle.eos_faults.specs.steps.Plain.{name_at, place_at, claim_at, by_name}
 
@@ -92,11 +94,20 @@ is_reached (Some k) o ms = goes_past o (reach_of ms k.0 k.1)
 
 -- ---- all of them
 
+-- what an application reads, commits and writes, in these logs
+pub record AreBooks (a : Application) (b : Books) : Type 0 where
+  pub sources : IsPermutation a.sources b.sources
+  pub offsets : AreOffsets b.offsets a.commits
+  pub reached : AreReached b.reached a.commits
+  pub inputs : a.inputs ≡ flat_map (inputs_at b.sources) b.parts.now
+  pub claims : a.claims ≡ flat_map (claims_of_part b.outputs) b.parts.now
+  pub apart : AreApart a
+
 pub record AreTables (a : Application) (t : Tables) : Type 0 where
-  pub sources : IsPermutation a.sources t.sources
+  pub sources : IsPermutation a.sources t.books.now.sources
   pub inputs : AreInputs a t.inputs
-  pub offsets : AreOffsets t.offsets a.commits
-  pub reached : AreReached t.reached a.commits
+  pub offsets : AreOffsets t.books.now.offsets a.commits
+  pub reached : AreReached t.books.now.reached a.commits
   pub apart : AreApart a
   pub claims : AreClaims a t.claims
 

@@ -26,15 +26,15 @@ loop-app-preserved g c =
     let app = c.app-item.result in
     let takes = g.S.FaultSink.takes in
     let so_far = c.loop-app.invariant in
-    let told = c.in_ok-faults_by_source.ensures in
+    let told = c.in_ok-faults_by_range.ensures in
     let named = map (in_group (named_group apps app)) told.0 in
-    let step = subst (λ (group : Option Group). TakesAll takes c.loop-app.sink (map Lineage (map (in_group group) told.0)) c.faults_by_source.new.sink) c.group_of.ensures told.1 in
+    let step = subst (λ (group : Option Group). TakesAll takes c.loop-app.sink (map Lineage (map (in_group group) told.0)) c.faults_by_range.new.sink) c.group_of.ensures told.1 in
     let further = ap (λ (t : App). take i apps ++ t ∷ []) c.app-item.is ∙ sym (take_more apps i app c.loop-app-test.true) in (
       so_far.0 ++ named,
-      subst (λ (fs : List Fault). TakesAll takes c.args.sink.now fs c.faults_by_source.new.sink) (sym (map-append Lineage so_far.0 named))
-          (takes_joined takes (map Lineage so_far.0) (map Lineage named) c.args.sink.now c.loop-app.sink c.faults_by_source.new.sink so_far.1 step),
+      subst (λ (fs : List Fault). TakesAll takes c.args.sink.now fs c.faults_by_range.new.sink) (sym (map-append Lineage so_far.0 named))
+          (takes_joined takes (map Lineage so_far.0) (map Lineage named) c.args.sink.now c.loop-app.sink c.faults_by_range.new.sink so_far.1 step),
       λ order.
-          let each = told.2 (application_of app parts) (reads app parts) (c.in_ok-tables.ensures order) in
+          let each = told.2 (application_of app parts) (reads app parts) (c.in_ok-books.ensures order) in
           subst (λ (done : List App). AreTaken apps parts done (so_far.0 ++ named)) further (taken_more apps parts (take i apps) app told.0 so_far.0 (so_far.0 ++ named) (so_far.2 order) each refl),
     )
 
@@ -51,6 +51,6 @@ returns g c =
           all_taken c.args.spec.now.apps parts (unequal_groups c.args.spec.now c.apps.ensures.accepted) none told.0 taken,
     )
 
-pub tables_of-requires : goal.tables_of-requires
-tables_of-requires g c =
+pub books_of-requires : goal.books_of-requires
+books_of-requires g c =
     (c.as_slice-apps.result.now, c.in_ok-table.ensures, item_has c.as_slice-apps.result.now c.loop-app.app-index c.app-item.result c.loop-app-test.true c.app-item.is)

@@ -12,7 +12,7 @@ pub returns : goal.returns
 returns c = λ a are input.
     let source = c.args.source.now in
     record {
-      source = c.has.ensures ∙ found_among (slice_cmp nat_cmp) a.sources c.args.tables.now.sources source.partition.topic.now are.sources;
+      source = c.has.ensures ∙ found_among (slice_cmp nat_cmp) a.sources c.args.tables.now.books.now.sources source.partition.topic.now are.sources;
       input = input;
       committed = c.goes_past.ensures ∙ (ap (goes_past source.offset) (ap (option_map (λ (o : Offset). o.offset)) c.offset_in-committed.ensures ∙ are.offsets source.partition) ∙ committed_is a.commits (place_at source));
     }
