@@ -1,4 +1,3 @@
 -- What only private functions promise: steps towards what the public calls say.
 pub mod Such
-pub mod Walks
 pub mod Holding
