@@ -5,6 +5,3 @@ pub mod Counting
 pub mod Kinds
 pub mod Again
 pub mod Untold
-pub mod HeadersRead
-pub mod Seen
-pub mod Times

@@ -7,7 +7,6 @@ mod answer;
 mod batches;
 mod command;
 mod folder;
-mod headers;
 mod kinds;
 mod lines;
 mod paths;
@@ -17,7 +16,6 @@ mod seen;
 mod sentences;
 mod stories;
 mod story;
-mod times;
 mod told;
 mod whole_story;
 

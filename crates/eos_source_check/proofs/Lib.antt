@@ -11,7 +11,6 @@ pub mod EarnedAgain
 pub mod FaultsSame
 pub mod FirstFound
 pub mod LogsAgain
-pub mod FoldsAgain
 pub mod PassedAgain
 pub mod ListedAgain
 pub mod KnownAgain

@@ -6,4 +6,3 @@ pub mod FaultsAgain
 pub mod Rising
 pub mod Each
 pub mod JudgedBy
-pub mod FoldsAgain

@@ -1,13 +1,9 @@
 //! Which rows a fault has, by its kind.
 
-ghost use Rattle.std.specs.Option.{option_copied};
-ghost use Rattle.std.specs.Prelude.{◌≡◌, IfOk, OnOk, Some, List, All};
-ghost use Rattle.eos_evidence.specs.declared.partition.Partition.{Partition as Log};
+ghost use Rattle.std.specs.Prelude.{◌≡◌, IfOk, OnOk, Some};
 ghost use Rattle.eos_story.specs.Questions.{of_log, marker_epoch, there, states_about, of_match};
-ghost use Rattle.eos_story.specs.PlaceOfFault.{place_of};
-ghost use Rattle.eos_story.specs.Rows.{IsTrue};
+ghost use Rattle.eos_story.specs.Rows.{AreTrue};
 ghost use Rattle.eos_story.specs.Wholeness.{IsWhole};
-ghost use Rattle.eos_story.specs.steps.Seen.{IsSeenBy, OfAllSeen};
 ghost use Rattle.eos_story.specs.steps.Telling.{Tells, TellsEach};
 
 use crate::batches::push_one;
@@ -114,8 +110,7 @@ fn match_rows(scene: &Scene<'_>, rows: &mut Vec<Row>, fault: &MatchFault) -> Res
 }
 
 fn push_rows(scene: &Scene<'_>, rows: &mut Vec<Row>, fault: &Fault) -> Result<(), AllocError>
-    requires { option_copied scene.now.place ≡ place_of fault.now }
-    ensures { OnOk result (Tells scene.now rows.old.items rows.new.items (λ told. OfAllSeen scene.now (λ ps. IsWhole scene.now.apps.now ps scene.now.logs.now fault.now told))) }
+    ensures { OnOk result (Tells scene.now rows.old.items rows.new.items (IsWhole scene.now.apps.now scene.now.partitions.now scene.now.logs.now fault.now)) }
 {
     match fault {
         Fault::Partition(fault) => {
@@ -142,9 +137,8 @@ fn push_rows(scene: &Scene<'_>, rows: &mut Vec<Row>, fault: &Fault) -> Result<()
 /// # Errors
 /// Only want of memory.
 pub fn rows_of(scene: &Scene<'_>, fault: &Fault) -> Result<Vec<Row>, AllocError>
-    requires place { option_copied scene.now.place ≡ place_of fault.now }
-    ensures so { IfOk result (λ rows. (ps : List Log) → IsSeenBy scene.now ps → All (IsTrue ps scene.now.logs.now) rows.items) }
-    ensures whole { IfOk result (λ rows. (ps : List Log) → IsSeenBy scene.now ps → IsWhole scene.now.apps.now ps scene.now.logs.now fault.now rows.items) }
+    ensures so { IfOk result (λ rows. AreTrue scene.now rows.items) }
+    ensures whole { IfOk result (λ rows. IsWhole scene.now.apps.now scene.now.partitions.now scene.now.logs.now fault.now rows.items) }
 {
     let mut rows = Vec::new(scene.alloc);
     push_rows(scene, &mut rows, fault)?;
