@@ -44,6 +44,7 @@ TABLE = {
         eos_fold_file: FoldFault FoldField FoldFile FoldHead FoldKept FoldTexts decode_fold encode_fold fold fold_of fold_texts read_fold write_fold
         eos_kept: SegmentFold fold
         eos_source: fold read_fold
+        eos_source_check: fold_again fold_of_log folds_again
         eos_words: FOLD FOLDS FOLD_USAGE FOLD_WRITES Fold fold_arguments read_fold
         """,
     "run": """

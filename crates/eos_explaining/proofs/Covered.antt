@@ -1,99 +1,89 @@
--- Partitions that were read again, by their names.
+-- Partitions that were read again for the folds of their segments, by their names.
 use Rattle.std.proofs.Common.{◌≡◌, ◌∙◌, ℕ, ◌+◌, List, [], ◌∷◌, ◌++◌, Option, Some, None, Bool, true, false, length, ◌<◌, take, get_or, inl, inr, refl, sym, ap, subst, map}
 use Rattle.std.proofs.lemmas.List.{take_more}
 use Rattle.std.specs.Prelude.{◌⊎◌, if◌then◌else◌}
 use Rattle.eos_base.specs.Members.{Has}
+use Rattle.eos_base.proofs.Membership.{append_cases, append_left}
 use Rattle.eos_base.specs.declared.partition_name.PartitionName.{PartitionName}
-use Rattle.eos_evidence.specs.declared.ends.End.{End}
 use Rattle.eos_evidence.specs.declared.partition.Partition.{Partition}
 use Rattle.eos_evidence.specs.Evidence.{EvidenceParts, IsEvidence}
 use Rattle.eos_evidence.specs.SpecFields.{SpecFields}
-use Rattle.eos_sought.specs.Partitions.{is_named, partition_named}
+use Rattle.eos_sought.specs.declared.folded.Folded.{Folded}
+use Rattle.eos_sought.specs.Folded.{IsFolded, AreFolded, IsNamedBy}
+use Rattle.eos_sought.specs.Partitions.{names, is_named, partition_named}
 use Rattle.eos_source.specs.Said.{Known}
-use Rattle.eos_source_check.specs.Again.{IsReadOf, IsReadIf, IsNamedAgain, IsRead}
+use Rattle.eos_source_check.specs.Again.{IsNamedAgain, IsRead, AreFoldsOfRead, AreFoldsNamed}
 use Rattle.eos_story.specs.Names.{name_in}
 use Rattle.eos_story.specs.steps.Same.{IsSameOf}
 use Rattle.eos_story.specs.declared.row.Row.{Row}
 use Rattle.eos_explaining.specs.Folders.{AreRead, HasThem}
-use Rattle.eos_explaining.specs.steps.Again.{IsCovered, IsCoveredIf, AreCovered, ReadsMore, SettledIf}
+use Rattle.eos_explaining.specs.steps.Again.{IsFoldRead, IsFoldThere, HasFolds, IsCovered, IsCoveredIf, AreCovered, AreKept, ReadsMore, SettledIf}
+use Rattle.eos_explaining.proofs.NamedAgain.{named_again, none_again, own_read}
 use Rattle.eos_explaining.proofs.OwnNames.{found_has, found_is, named_is, same_ends_named}
 
 -- ---- one that is read
 
-pub none_more : (known : ℕ → Known) (shapes xs : List Partition) → ReadsMore known shapes xs xs
-none_more known shapes xs = record { kept = λ p has. has; come = λ p has. inl has }
+pub none_more : (known : ℕ → Known) (shapes : List Partition) (xs : List Folded) → ReadsMore known shapes xs xs
+none_more known shapes xs = record { kept = λ f has. has; come = λ f has. inl has }
 
-pub more_still : (known : ℕ → Known) (shapes first before after : List Partition) → ReadsMore known shapes first before → ReadsMore known shapes before after → ReadsMore known shapes first after
+pub more_still : (known : ℕ → Known) (shapes : List Partition) (first before after : List Folded) → ReadsMore known shapes first before → ReadsMore known shapes before after → ReadsMore known shapes first after
 more_still known shapes first before after h k = record {
-  kept = λ p has. k.kept p (h.kept p has);
-  come = λ p has. elim (k.come p has) [
-    | inl old ↦ h.come p old
+  kept = λ f has. k.kept f (h.kept f has);
+  come = λ f has. elim (k.come f has) [
+    | inl old ↦ h.come f old
     | inr is ↦ inr is
   ];
 }
 
-pub are_read : (known : ℕ → Known) (shapes before after : List Partition) → AreRead known shapes before → ReadsMore known shapes before after → AreRead known shapes after
-are_read known shapes before after were h = λ p has. elim (h.come p has) [
-  | inl old ↦ were p old
+-- those that were read from none on
+pub all_come : (known : ℕ → Known) (shapes : List Partition) (read : List Folded) → ReadsMore known shapes [] read → (f : Folded) → Has read f → IsFoldRead known shapes f
+all_come known shapes read h f has = elim (h.come f has) [
+  | inl none ↦ absurd none
   | inr is ↦ is
 ]
 
-has_before : (xs : List Partition) (x p : Partition) → Has xs p → Has (xs ++ x ∷ []) p
-has_before [] x p h = absurd h
-has_before (y ∷ ys) x p (inl e) = inl e
-has_before (y ∷ ys) x p (inr h) = inr (has_before ys x p h)
+fold_of : (known : ℕ → Known) (shapes : List Partition) (name : PartitionName) (f : Folded) (read : Option Partition) → IsNamedAgain known 0 shapes name read → AreFoldsOfRead read (Some f) → IsFoldRead known shapes f
+fold_of known shapes name f None again are = absurd are
+fold_of known shapes name f (Some p) again are = record { partition = p; read = own_read known shapes name p again; of = are }
 
-has_either : (xs : List Partition) (x p : Partition) → Has (xs ++ x ∷ []) p → Has xs p ⊎ (x ≡ p)
-has_either [] x p (inl e) = inr e
-has_either [] x p (inr h) = absurd h
-has_either (y ∷ ys) x p (inl e) = inl (inl e)
-has_either (y ∷ ys) x p (inr h) = elim (has_either ys x p h) [
-  | inl has ↦ inl (inr has)
-  | inr is ↦ inr is
-]
-
-named_if : (known : ℕ → Known) (piece : ℕ) (shape : Partition) (shapes : List Partition) (name : PartitionName) (p : Partition) (b : Bool) → b ≡ is_named name shape
-    → (IsNamedAgain known (piece + length shape.segments) shapes name (Some p) → is_named name p ≡ true)
-    → IsReadIf b (IsReadOf known piece shape (Some p)) (IsNamedAgain known (piece + length shape.segments) shapes name (Some p)) → is_named name p ≡ true
-named_if known piece shape shapes name p true is rest again =
-    ap (λ (e : End). is_named name (record { end = e; segments = p.segments })) again.end ∙ sym is
-named_if known piece shape shapes name p false is rest again = rest again
-
--- a partition that is read by a name has it
-named_again : (known : ℕ → Known) (piece : ℕ) (shapes : List Partition) (name : PartitionName) (p : Partition) → IsNamedAgain known piece shapes name (Some p) → is_named name p ≡ true
-named_again known piece [] name p again = absurd cc
-named_again known piece (shape ∷ shapes) name p again =
-    named_if known piece shape shapes name p (is_named name shape) refl (named_again known (piece + length shape.segments) shapes name p) again
-
-pub one_more : (known : ℕ → Known) (shapes xs all : List Partition) (name : PartitionName) (x : Partition) → IsNamedAgain known 0 shapes name (Some x) → all ≡ xs ++ x ∷ [] → ReadsMore known shapes xs all
-one_more known shapes xs all name x again is =
-    let own : IsRead known shapes x = subst (λ (n : PartitionName). IsNamedAgain known 0 shapes n (Some x)) (named_is name x (named_again known 0 shapes name x again)) again in
-    record {
-      kept = λ p has. subst (λ (ps : List Partition). Has ps p) (sym is) (has_before xs x p has);
-      come = λ p has. elim (has_either xs x p (subst (λ (ps : List Partition). Has ps p) is has)) [
-        | inl before ↦ inl before
-        | inr same ↦ inr (subst (IsRead known shapes) same own)
-      ];
-    }
+pub one_more : (known : ℕ → Known) (shapes : List Partition) (xs all : List Folded) (name : PartitionName) (f : Folded) → AreFoldsNamed known shapes name (Some f) → all ≡ xs ++ f ∷ [] → ReadsMore known shapes xs all
+one_more known shapes xs all name f named is = record {
+  kept = λ g has. subst (λ (gs : List Folded). Has gs g) (sym is) (append_left xs (f ∷ []) g has);
+  come = λ g has. elim (append_cases xs (f ∷ []) g (subst (λ (gs : List Folded). Has gs g) is has)) [
+    | inl before ↦ inl before
+    | inr (inl same) ↦ inr (subst (IsFoldRead known shapes) same (fold_of known shapes name f named.read named.again named.are))
+    | inr (inr none) ↦ absurd none
+  ];
+}
 
 -- ---- names that are covered
 
-none_if : (known : ℕ → Known) (piece : ℕ) (shape : Partition) (shapes : List Partition) (name : PartitionName) (b : Bool) → b ≡ is_named name shape
-    → (IsNamedAgain known (piece + length shape.segments) shapes name None → partition_named name shapes ≡ None)
-    → IsReadIf b (IsReadOf known piece shape None) (IsNamedAgain known (piece + length shape.segments) shapes name None) → partition_named name (shape ∷ shapes) ≡ None
-none_if known piece shape shapes name true is rest again = absurd again
-none_if known piece shape shapes name false is rest again = rw (sym is) (rest again)
+none_read : (known : ℕ → Known) (shapes : List Partition) (name : PartitionName) (read : Option Partition) → IsNamedAgain known 0 shapes name read → AreFoldsOfRead read None → partition_named name shapes ≡ None
+none_read known shapes name None again are = none_again known 0 shapes name again
+none_read known shapes name (Some p) again are = absurd are
 
-none_again : (known : ℕ → Known) (piece : ℕ) (shapes : List Partition) (name : PartitionName) → IsNamedAgain known piece shapes name None → partition_named name shapes ≡ None
-none_again known piece [] name again = refl
-none_again known piece (shape ∷ shapes) name again =
-    none_if known piece shape shapes name (is_named name shape) refl (none_again known (piece + length shape.segments) shapes name) again
+pub is_none : (known : ℕ → Known) (shapes : List Partition) (read : List Folded) (name : PartitionName) → AreFoldsNamed known shapes name None → IsCovered shapes read name
+is_none known shapes read name named = inr (none_read known shapes name named.read named.again named.are)
 
-pub was_read : (shapes read : List Partition) (name : PartitionName) (p : Partition) → partition_named name read ≡ Some p → IsCovered shapes read name
-was_read shapes read name p is = inl (p, is)
+pub was_read : (shapes : List Partition) (read : List Folded) (name : PartitionName) (f : Folded) → ((ps : List Partition) → AreFolded ps read → IsNamedBy ps name f) → IsCovered shapes read name
+was_read shapes read name f by = inl (f, by)
 
-pub is_none : (known : ℕ → Known) (shapes read : List Partition) (name : PartitionName) → IsNamedAgain known 0 shapes name None → IsCovered shapes read name
-is_none known shapes read name again = inr (none_again known 0 shapes name again)
+-- the one behind others
+record Last (ps : List Partition) (xs : List Folded) (f : Folded) : Type 0 where
+  pub front : List Partition
+  pub partition : Partition
+  pub parts : ps ≡ front ++ partition ∷ []
+  pub folded : AreFolded front xs
+  pub of : IsFolded partition f
+
+last_of : (ps : List Partition) (xs : List Folded) (f : Folded) → AreFolded ps (xs ++ f ∷ []) → Last ps xs f
+last_of [] [] f are = absurd are
+last_of (p ∷ []) [] f are = record { front = []; partition = p; parts = refl; folded = tt; of = are.0 }
+last_of (p ∷ q ∷ ps) [] f are = absurd are.1
+last_of [] (x ∷ xs) f are = absurd are
+last_of (p ∷ ps) (x ∷ xs) f are =
+    let l = last_of ps xs f are.1 in
+    record { front = p ∷ l.front; partition = l.partition; parts = ap (λ (qs : List Partition). p ∷ qs) l.parts; folded = (are.0, l.folded); of = l.of }
 
 some_none : (y : Partition) → Some y ≡ None → ⊥
 some_none y e = cc e
@@ -106,8 +96,67 @@ last_named : (xs : List Partition) (name : PartitionName) (x : Partition) → pa
 last_named [] name x none is = rw is refl
 last_named (y ∷ ys) name x none is = last_by (is_named name y) y x (partition_named name ys) (partition_named name (ys ++ x ∷ [])) none (λ n. last_named ys name x n is)
 
-pub is_read : (known : ℕ → Known) (shapes xs all : List Partition) (name : PartitionName) (x : Partition) → partition_named name xs ≡ None → IsNamedAgain known 0 shapes name (Some x) → all ≡ xs ++ x ∷ [] → IsCovered shapes all name
-is_read known shapes xs all name x none again is = inl (x, ap (partition_named name) is ∙ last_named xs name x none (named_again known 0 shapes name x again))
+-- a fold's partition has the name by which it was read
+has_name : (known : ℕ → Known) (shapes : List Partition) (name : PartitionName) (f : Folded) (p : Partition) (read : Option Partition) → IsNamedAgain known 0 shapes name read → AreFoldsOfRead read (Some f) → IsFolded p f → is_named name p ≡ true
+has_name known shapes name f p None again are of = absurd are
+has_name known shapes name f p (Some q) again are of = ap (names name) (sym of.end ∙ are.end) ∙ named_again known 0 shapes name q again
+
+pub is_read : (known : ℕ → Known) (shapes : List Partition) (xs all : List Folded) (name : PartitionName) (f : Folded) → ((ps : List Partition) → AreFolded ps xs → partition_named name ps ≡ None) → AreFoldsNamed known shapes name (Some f) → all ≡ xs ++ f ∷ []
+    → IsCovered shapes all name
+is_read known shapes xs all name f none named is = inl (
+  f,
+  λ ps are.
+      let l = last_of ps xs f (subst (AreFolded ps) is are) in
+      let own = has_name known shapes name f l.partition named.read named.again named.are l.of in
+      record { partition = l.partition; named = ap (partition_named name) l.parts ∙ last_named l.front name l.partition (none l.front l.folded) own; folded = l.of },
+)
+
+-- ---- the partitions of which they are folds, in an evidence that has them
+
+pub record Chosen (e : EvidenceParts) (read : List Folded) : Type 0 where
+  pub partitions : List Partition
+  pub folded : AreFolded partitions read
+  pub there : HasThem e partitions
+
+pub chosen : (e : EvidenceParts) (read : List Folded) → HasFolds e read → Chosen e read
+chosen e [] has = record { partitions = []; folded = tt; there = λ p h. absurd h }
+chosen e (f ∷ fs) has =
+    let here = has f (inl refl) in
+    let others = chosen e fs (λ g h. has g (inr h)) in
+    record {
+      partitions = here.partition ∷ others.partitions;
+      folded = (here.of, others.folded);
+      there = λ p h. elim h [
+        | inl same ↦ subst (λ q. partition_named (record { topic = q.end.topic; partition = q.end.partition }) e.partitions ≡ Some q) same here.there
+        | inr h ↦ others.there p h
+      ];
+    }
+
+-- those that were read, as a list
+pub record Gathered (known : ℕ → Known) (shapes : List Partition) (read : List Folded) : Type 0 where
+  pub partitions : List Partition
+  pub are : AreRead known shapes partitions
+  pub there : (e : EvidenceParts) → HasThem e partitions → HasFolds e read
+
+pub gathered : (known : ℕ → Known) (shapes : List Partition) (read : List Folded) → ((f : Folded) → Has read f → IsFoldRead known shapes f) → Gathered known shapes read
+gathered known shapes [] are = record { partitions = []; are = λ p h. absurd h; there = λ e has f h. absurd h }
+gathered known shapes (f ∷ fs) are =
+    let here = are f (inl refl) in
+    let others = gathered known shapes fs (λ g h. are g (inr h)) in
+    record {
+      partitions = here.partition ∷ others.partitions;
+      are = λ p h. elim h [
+        | inl same ↦ subst (IsRead known shapes) same here.read
+        | inr h ↦ others.are p h
+      ];
+      there = λ e has g h. elim h [
+        | inl same ↦ subst (IsFoldThere e) same (record { partition = here.partition; there = has here.partition (inl refl); of = here.of })
+        | inr h ↦ others.there e (λ p k. has p (inr k)) g h
+      ];
+    }
+
+pub folds_before : (e : EvidenceParts) (before after : List Folded) → AreKept before after → HasFolds e after → HasFolds e before
+folds_before e before after kept has = λ f here. has f (kept f here)
 
 -- ---- the same in the evidence
 
@@ -128,32 +177,38 @@ by_lookup e read name (Some p) is has none = sym is ∙ sym (there_by e read nam
 pub none_there : (shape e : EvidenceParts) (name : PartitionName) → IsEvidence shape → IsEvidence e → e.spec ≡ shape.spec → partition_named name shape.partitions ≡ None → partition_named name e.partitions ≡ None
 none_there shape e name is_shape is spec none = same_ends_named shape.partitions e.partitions name (same_ends shape e is_shape is spec) none
 
-pub same_named : (shape e : EvidenceParts) (read : List Partition) (name : PartitionName) → IsEvidence shape → IsEvidence e → e.spec ≡ shape.spec → HasThem e read → IsCovered shape.partitions read name
+-- the partition of this name is one of these, or there is none
+abbrev pub IsAmong : List Partition → List Partition → PartitionName → Type 0
+IsAmong shapes ps name = ((p : Partition) × (partition_named name ps ≡ Some p)) ⊎ (partition_named name shapes ≡ None)
+
+pub same_named : (shape e : EvidenceParts) (read : List Partition) (name : PartitionName) → IsEvidence shape → IsEvidence e → e.spec ≡ shape.spec → HasThem e read → IsAmong shape.partitions read name
     → partition_named name read ≡ partition_named name e.partitions
 same_named shape e read name is_shape is spec has (inl c) = c.1 ∙ sym (there_by e read name c.0 has c.1)
 same_named shape e read name is_shape is spec has (inr none) =
     by_lookup e read name (partition_named name read) refl has (none_there shape e name is_shape is spec none)
 
-pub same_if : (shape e : EvidenceParts) (read : List Partition) (name : Option PartitionName) → IsEvidence shape → IsEvidence e → e.spec ≡ shape.spec → HasThem e read → IsCoveredIf shape.partitions read name → IsSameOf name read e.partitions
-same_if shape e read None is_shape is spec has c = tt
-same_if shape e read (Some name) is_shape is spec has c = same_named shape e read name is_shape is spec has c
+among : (shapes ps : List Partition) (read : List Folded) (name : PartitionName) → AreFolded ps read → IsCovered shapes read name → IsAmong shapes ps name
+among shapes ps read name are (inl c) = let n = c.1 ps are in inl (n.partition, n.named)
+among shapes ps read name are (inr none) = inr none
+
+pub same_if : (shape e : EvidenceParts) (ps : List Partition) (read : List Folded) (name : Option PartitionName) → IsEvidence shape → IsEvidence e → e.spec ≡ shape.spec → HasThem e ps → AreFolded ps read → IsCoveredIf shape.partitions read name
+    → IsSameOf name ps e.partitions
+same_if shape e ps read None is_shape is spec has are c = tt
+same_if shape e ps read (Some name) is_shape is spec has are c = same_named shape e ps name is_shape is spec has (among shape.partitions ps read name are c)
 
 -- ---- rows, one after the other
 
 rows_split : (rows : List Row) (i : ℕ) (row r : Row) → i < length rows → row ≡ get_or rows i row → Has (take (i + 1) rows) r → Has (take i rows) r ⊎ (row ≡ r)
-rows_split rows i row r lt is has = has_either_row (take i rows) row r (subst (λ (rs : List Row). Has rs r) (take_more rows i row lt ∙ ap (λ (x : Row). take i rows ++ x ∷ []) (sym is)) has)
-  where
-    has_either_row : (xs : List Row) (x p : Row) → Has (xs ++ x ∷ []) p → Has xs p ⊎ (x ≡ p)
-    has_either_row [] x p (inl e) = inr e
-    has_either_row [] x p (inr h) = absurd h
-    has_either_row (y ∷ ys) x p (inl e) = inl (inl e)
-    has_either_row (y ∷ ys) x p (inr h) = elim (has_either_row ys x p h) [
-      | inl has ↦ inl (inr has)
-      | inr is ↦ inr is
+rows_split rows i row r lt is has =
+    let more : take (i + 1) rows ≡ take i rows ++ row ∷ [] = take_more rows i row lt ∙ ap (λ (x : Row). take i rows ++ x ∷ []) (sym is) in
+    elim (append_cases (take i rows) (row ∷ []) r (subst (λ (rs : List Row). Has rs r) more has)) [
+      | inl before ↦ inl before
+      | inr (inl same) ↦ inr same
+      | inr (inr none) ↦ absurd none
     ]
 
 -- one row more: none was read for those before, and none for this one
-pub rows_more : (shapes first before after : List Partition) (rows : List Row) (i : ℕ) (row : Row) (name : Option PartitionName) (was one more : Bool) → i < length rows → row ≡ get_or rows i row → name ≡ name_in row
+pub rows_more : (shapes : List Partition) (first before after : List Folded) (rows : List Row) (i : ℕ) (row : Row) (name : Option PartitionName) (was one more : Bool) → i < length rows → row ≡ get_or rows i row → name ≡ name_in row
     → SettledIf first before (λ all. AreCovered shapes all (take i rows)) was → SettledIf before after (λ all. IsCoveredIf shapes all name) one → (more ≡ false → (was ≡ false) × (one ≡ false))
     → SettledIf first after (λ all. AreCovered shapes all (take (i + 1) rows)) more
 rows_more shapes first before after rows i row name was one more lt is named old new parts = λ none.
@@ -162,7 +217,7 @@ rows_more shapes first before after rows i row name was one more lt is named old
     record {
       same = k.same ∙ h.same;
       covers = λ r has. elim (rows_split rows i row r lt is has) [
-        | inl earlier ↦ subst (λ (ps : List Partition). IsCoveredIf shapes ps (name_in r)) (sym k.same) (h.covers r earlier)
+        | inl earlier ↦ subst (λ (fs : List Folded). IsCoveredIf shapes fs (name_in r)) (sym k.same) (h.covers r earlier)
         | inr same ↦ subst (λ (x : Row). IsCoveredIf shapes after (name_in x)) same (subst (IsCoveredIf shapes after) named k.covers)
       ];
     }

@@ -6,11 +6,15 @@ pub mod LinesShown
 pub mod PartsTold
 pub mod Tellings
 pub mod OwnNames
+pub mod NamedAgain
 pub mod Covered
 pub mod PartitionsAgain
 pub mod SeenLogs
+pub mod LinesTimed
+pub mod TimesFound
 pub mod StoryThere
 pub mod StoriesMore
 pub mod Answered
 pub mod Untold
 pub mod FolderAnswers
+pub mod HeadersRead

@@ -1,118 +1,115 @@
 -- A story that is told over the partitions that it names is the story of the evidence that has them.
-use Rattle.std.proofs.Common.{◌≡◌, ◌∙◌, ℕ, List, [], ◌∷◌, map, get_or, Option, Some, None, Bool, false, inl, inr, refl, sym, ap, subst}
+use Rattle.std.proofs.Common.{◌≡◌, ◌∙◌, ◌++◌, ℕ, ℤ, List, map, get_or, Option, Some, Bool, false, sym, ap, subst}
 use Rattle.std.specs.List.{All}
 use Rattle.std.specs.Option.{option_copied}
 use Rattle.std.specs.Prelude.{option_map}
-use Rattle.eos_base.specs.Members.{Has}
+use Rattle.eos_batch.specs.declared.record.Header.{Header}
 use Rattle.eos_claims.specs.declared.place.Place.{Place}
 use Rattle.eos_evidence.specs.declared.application.App.{App}
 use Rattle.eos_evidence.specs.declared.partition.Partition.{Partition}
 use Rattle.eos_evidence.specs.Evidence.{EvidenceParts, IsEvidence}
 use Rattle.eos_evidence.specs.SpecFields.{SpecFields}
+use Rattle.eos_fold.specs.Parts.{PartLog}
 use Rattle.eos_notes.specs.Notes.{AreAllNotes}
-use Rattle.eos_base.specs.declared.partition_name.PartitionName.{PartitionName}
-use Rattle.eos_sought.specs.Partitions.{partition_named}
-use Rattle.eos_sought.specs.Times.{time_in}
-use Rattle.eos_sought.specs.declared.finding.Find.{Find}
-use Rattle.eos_sought.specs.declared.partition.Placed.{Placed}
+use Rattle.eos_sought.specs.declared.folded.Folded.{Folded}
+use Rattle.eos_sought.specs.Folded.{AreFolded}
+use Rattle.eos_source.specs.Said.{Known}
 use Rattle.eos_verdict.specs.declared.verdict.Fault.{Fault}
 use Rattle.eos_verdict.specs.declared.verdict.Verdict.{Verdict}
 use Rattle.eos_verdict.specs.declared.verdict.Verdict.TheVariants.{No}
 use Rattle.eos_story.specs.Names.{name_in}
 use Rattle.eos_story.specs.steps.Same.{IsSameOf}
+use Rattle.eos_story.specs.SceneOf.{IsSceneOf}
 use Rattle.eos_story.specs.PlaceOfFault.{place_of, place_in}
-use Rattle.eos_story.specs.Rows.{IsTrue}
+use Rattle.eos_story.specs.Rows.{IsTrue, AreHeadersOf}
 use Rattle.eos_story.specs.Wholeness.{IsWhole}
 use Rattle.eos_story.specs.declared.row.Row.{Row}
-use Rattle.eos_story.specs.declared.row.Row.TheVariants as rows
-use Rattle.eos_story.proofs.Carried.{rows_carried, whole_carried}
+use Rattle.eos_story.specs.declared.scene.Scene.{Scene}
+use Rattle.eos_story.proofs.Carried.{rows_carried, whole_carried, headers_carried}
 use Rattle.eos_story.proofs.RowsPushed.{has_index}
 use Rattle.eos_explaining.specs.declared.story.About.{About}
 use Rattle.eos_explaining.specs.declared.whole_story.Story.{Story}
 use Rattle.eos_explaining.specs.Explaining.{HasItsPage, AreWhole}
 use Rattle.eos_explaining.specs.Stories.{story_text}
-use Rattle.eos_explaining.specs.Told.{first_time, record_time, row_time, told_line}
-use Rattle.eos_explaining.specs.steps.Again.{AreNamedCovered, SettledIf, IsToldBy}
-use Rattle.eos_explaining.proofs.Covered.{same_if}
+use Rattle.eos_explaining.specs.Told.{row_time}
+use Rattle.eos_explaining.specs.steps.Again.{AreNamedCovered, AreHeadersThere, AreKept, SettledIf, IsToldBy}
+use Rattle.eos_explaining.specs.steps.Times.{AreRowTimes}
+use Rattle.eos_explaining.proofs.Covered.{chosen, folds_before, same_if}
+use Rattle.eos_explaining.proofs.NamedAgain.{both_read, them_first, them_more}
 
--- ---- the text
+-- the scene is that of these folds, logs and headers, and of the fault's place
+pub record IsSceneBy (scene : Scene) (apps : List App) (read : List Folded) (logs : List PartLog) (place : Option Place) (headers : List Header) : Type 0 where
+  pub apps_are : scene.apps.now ≡ apps
+  pub folds : scene.partitions.now ≡ read
+  pub logs_are : scene.logs.now ≡ logs
+  pub place_is : option_copied scene.place ≡ place
+  pub headers_are : scene.headers.now ≡ headers
 
-first_same : (ps qs : List Partition) (name : PartitionName) (placed : Option Placed) → partition_named name ps ≡ partition_named name qs → first_time ps name placed ≡ first_time qs name placed
-first_same ps qs name None same = refl
-first_same ps qs name (Some p) same = ap (λ (o : Option Partition). time_in o p p.standing.head.offset) same
+-- so the rows are, by any partitions that the scene is of
+pub record AreSo (scene : Scene) (fault : Fault) (told : List Row) : Type 0 where
+  pub so : (ps : List Partition) → IsSceneOf ps scene → All (IsTrue ps scene.logs.now) told
+  pub whole : (ps : List Partition) → IsSceneOf ps scene → IsWhole scene.apps.now ps scene.logs.now fault told
 
-record_same : (ps qs : List Partition) (find : Find) (spot : Option Placed) → partition_named find.partition ps ≡ partition_named find.partition qs → record_time ps find spot ≡ record_time qs find spot
-record_same ps qs find None same = refl
-record_same ps qs find (Some p) same = ap (λ (o : Option Partition). time_in o p find.item.offset) same
-
-time_same : (ps qs : List Partition) (row : Row) → IsSameOf (name_in row) ps qs → row_time ps row ≡ row_time qs row
-time_same ps qs (rows.Record sought find spot) same = record_same ps qs find spot same
-time_same ps qs (rows.NoRecord sought) same = refl
-time_same ps qs (rows.MoreRecords shown all sought) same = refl
-time_same ps qs (rows.Batch name wanted placed) same = first_same ps qs name (Some placed) same
-time_same ps qs (rows.First name wanted placed) same = first_same ps qs name placed same
-time_same ps qs (rows.MoreBatches name wanted shown all) same = refl
-time_same ps qs (rows.MorePartitions shown all sought) same = refl
-time_same ps qs (rows.Segment name base size) same = refl
-time_same ps qs (rows.MoreSegments name shown all) same = refl
-time_same ps qs (rows.End name end) same = refl
-time_same ps qs (rows.Header place name values) same = refl
-
-line_same : (fault : Option Place) (ps qs : List Partition) (row : Row) → IsSameOf (name_in row) ps qs → told_line fault ps row ≡ told_line fault qs row
-unfolding told_line
-line_same fault ps qs row same = rw (time_same ps qs row same) refl
-
-lines_same : (fault : Option Place) (ps qs : List Partition) (all : List Row) → ((row : Row) → Has all row → IsSameOf (name_in row) ps qs) → map (told_line fault ps) all ≡ map (told_line fault qs) all
-lines_same fault ps qs [] same = refl
-lines_same fault ps qs (row ∷ others) same =
-    let here = line_same fault ps qs row (same row (inl refl)) in
-    let rest = lines_same fault ps qs others (λ r has. same r (inr has)) in
-    λ i. here i ∷ rest i
-
-text_same : (ps qs : List Partition) (s : Story) → ((row : Row) → Has s.rows.now row → IsSameOf (name_in row) ps qs) → story_text ps s ≡ story_text qs s
-unfolding story_text
-text_same ps qs s same = rw (lines_same (option_copied s.place) ps qs s.rows.now same) refl
-
--- ---- the story
-
-pub told_by : (shape : EvidenceParts) (read : List Partition) (about : About) (verdict : Verdict) (fault : Fault) (story : Story) (text : List ℕ) → IsEvidence shape → verdict ≡ No fault
+pub told_by : (known : ℕ → Known) (shape : EvidenceParts) (read : List Folded) (about : About) (verdict : Verdict) (fault : Fault) (story : Story) (text : List ℕ) (scene : Scene) (headers : List Header) (times : List (Option ℤ)) → IsEvidence shape → verdict ≡ No fault
     → story.folder.now ≡ about.folder.now → story.verdict.now ≡ verdict → option_copied story.place ≡ place_of fault → story.counts.now ≡ about.counts.now → story.notes.now ≡ about.notes.now
-    → HasItsPage (No fault) (option_copied story.page) → All (IsTrue read about.logs.now) story.rows.now → IsWhole shape.spec.apps read about.logs.now fault story.rows.now
-    → AreNamedCovered shape.partitions read (option_copied story.place) story.rows.now → text ≡ story_text read story → IsToldBy shape read about verdict text
-told_by shape read about verdict fault story text is_shape named in_folder of_verdict at counts notes page true whole covered says = λ e is spec has are_notes told are_counts.
-    let logs = about.logs.now in
-    let all = story.rows.now in
-    let same : (row : Row) → Has all row → IsSameOf (name_in row) read e.partitions = λ row here. same_if shape e read (name_in row) is_shape is spec has (covered.1 row here) in
-    let own : IsSameOf (option_map (λ (p : Place). p.partition) (place_of fault)) read e.partitions =
-    subst (λ (o : Option Place). IsSameOf (option_map (λ (p : Place). p.partition) o) read e.partitions) at (same_if shape e read (option_map (λ (p : Place). p.partition) (option_copied story.place)) is_shape is spec has covered.0) in
-    let by_spec : IsWhole e.spec.apps read logs fault all = subst (λ (s : SpecFields). IsWhole s.apps read logs fault all) (sym spec) whole in
-    let whole_there : AreWhole e logs (No fault) all = whole_carried e.spec.apps read e.partitions logs fault all own by_spec in
-    record {
-      story = story;
-      in_folder = in_folder;
-      of_verdict = of_verdict;
-      at = at ∙ ap place_in (sym named);
-      rows = rows_carried read e.partitions logs all (λ i d lt. same (get_or all i d) (has_index all i d lt)) true;
-      whole = subst (λ (v : Verdict). AreWhole e logs v all) (sym named) whole_there;
-      page = subst (λ (v : Verdict). HasItsPage v (option_copied story.page)) (sym named) page;
-      counted = counts ∙ are_counts;
-      notes = subst (AreAllNotes e) (sym notes) are_notes;
-      says = says ∙ text_same read e.partitions story same;
-    }
+    → HasItsPage (No fault) (option_copied story.page) → IsSceneBy scene shape.spec.apps read about.logs.now (place_of fault) headers → AreSo scene fault story.rows.now
+    → AreNamedCovered shape.partitions read (place_of fault) story.rows.now → AreHeadersThere known shape read (place_of fault) headers → AreRowTimes known shape story.rows.now times
+    → ((time_of : Row → Option ℤ) → times ≡ map time_of story.rows.now → text ≡ story_text time_of story) → IsToldBy known shape read about verdict text
+told_by known shape read about verdict fault story text scene headers times is_shape named in_folder of_verdict at counts notes page of are covered heads timed says = record {
+  also = heads.also ++ timed.also;
+  read_also = both_read known shape.partitions heads.also timed.also heads.read_also timed.read;
+  told = λ e is spec has there are_notes told are_counts.
+      let logs = about.logs.now in
+      let all = story.rows.now in
+      let c = chosen e read has in
+      let ps = c.partitions in
+      let own : IsSameOf (option_map (λ (p : Place). p.partition) (place_of fault)) ps e.partitions = same_if shape e ps read (option_map (λ (p : Place). p.partition) (place_of fault)) is_shape is spec c.there c.folded covered.0 in
+      let seen : IsSceneOf ps scene = record {
+        folded = subst (AreFolded ps) (sym of.folds) c.folded;
+        headers = λ place here.
+            let so : place_of fault ≡ Some place = sym of.place_is ∙ here in
+            let same = subst (λ (o : Option Place). IsSameOf (option_map (λ (p : Place). p.partition) o) ps e.partitions) so own in
+            subst (AreHeadersOf ps place) (sym of.headers_are) (headers_carried e.partitions ps place headers (sym same) (heads.are e is_shape is spec has (them_first e heads.also timed.also there) place so));
+      } in
+      let trues : All (IsTrue ps logs) all = subst (λ (ls : List PartLog). All (IsTrue ps ls) all) of.logs_are (are.so ps seen) in
+      let by_logs = subst (λ (ls : List PartLog). IsWhole scene.apps.now ps ls fault all) of.logs_are (are.whole ps seen) in
+      let by_spec : IsWhole e.spec.apps ps logs fault all = subst (λ (s : SpecFields). IsWhole s.apps ps logs fault all) (sym spec) (subst (λ (xs : List App). IsWhole xs ps logs fault all) of.apps_are by_logs) in
+      let whole_there : AreWhole e logs (No fault) all = whole_carried e.spec.apps ps e.partitions logs fault all own by_spec in
+      record {
+        story = story;
+        in_folder = in_folder;
+        of_verdict = of_verdict;
+        at = at ∙ ap place_in (sym named);
+        rows = rows_carried ps e.partitions logs all (λ i d lt. same_if shape e ps read (name_in (get_or all i d)) is_shape is spec c.there c.folded (covered.1 (get_or all i d) (has_index all i d lt))) trues;
+        whole = subst (λ (v : Verdict). AreWhole e logs v all) (sym named) whole_there;
+        page = subst (λ (v : Verdict). HasItsPage v (option_copied story.page)) (sym named) page;
+        counted = counts ∙ are_counts;
+        notes = subst (AreAllNotes e) (sym notes) are_notes;
+        says = says (row_time e.partitions) (timed.are e is_shape is spec (them_more e heads.also timed.also there));
+      };
+}
 
 -- where no further partition was read, after the rows were found
-pub told_settled : (shape : EvidenceParts) (old lent after final : List Partition) (apps : List App) (rows asked : List Row) (about : About) (verdict : Verdict) (fault : Fault) (place : Option Place) (story : Story) (text : List ℕ) (more : Bool)
-    → IsEvidence shape → verdict ≡ No fault → place ≡ place_of fault → story.folder.now ≡ about.folder.now → story.verdict.now ≡ verdict → option_copied story.place ≡ place → story.counts.now ≡ about.counts.now
-    → story.notes.now ≡ about.notes.now → HasItsPage (No fault) (option_copied story.page) → apps ≡ shape.spec.apps → lent ≡ old → final ≡ after → asked ≡ rows → story.rows.now ≡ rows
-    → All (IsTrue lent about.logs.now) rows → IsWhole apps lent about.logs.now fault rows → SettledIf old after (λ all. AreNamedCovered shape.partitions all place asked) more → more ≡ false
-    → text ≡ story_text final story → IsToldBy shape after about verdict text
-told_settled shape old lent after final apps rows asked about verdict fault place story text more is_shape named at in_folder of_verdict own counts notes page apps_are lent_is final_is asked_is rows_are true whole settled none says =
+pub told_settled : (known : ℕ → Known) (shape : EvidenceParts) (old after : List Folded) (about : About) (verdict : Verdict) (fault : Fault) (place : Option Place) (story : Story) (text : List ℕ) (scene : Scene) (headers : List Header) (told asked timed : List Row) (times : List (Option ℤ)) (more : Bool)
+    → IsEvidence shape → verdict ≡ No fault → place ≡ place_of fault → story.folder.now ≡ about.folder.now → story.verdict.now ≡ verdict → option_copied story.place ≡ place → story.counts.now ≡ about.counts.now → story.notes.now ≡ about.notes.now
+    → HasItsPage (No fault) (option_copied story.page) → IsSceneBy scene shape.spec.apps old about.logs.now place headers → AreSo scene fault told → asked ≡ told → timed ≡ told → story.rows.now ≡ told
+    → SettledIf old after (λ all. AreNamedCovered shape.partitions all place asked) more → more ≡ false → AreHeadersThere known shape old place headers → AreRowTimes known shape timed times
+    → ((time_of : Row → Option ℤ) → times ≡ map time_of story.rows.now → text ≡ story_text time_of story) → IsToldBy known shape after about verdict text
+told_settled known shape old after about verdict fault place story text scene headers told asked timed times more is_shape named at in_folder of_verdict own counts notes page of so asked_is timed_is rows_are settled none heads has_times says =
     let s = settled none in
-    let logs = about.logs.now in
-    let same : lent ≡ after = lent_is ∙ sym s.same in
-    let trues : All (IsTrue after logs) story.rows.now = subst (All (IsTrue after logs)) (sym rows_are) (subst (λ (ps : List Partition). All (IsTrue ps logs) rows) same true) in
-    let by_apps : IsWhole shape.spec.apps lent logs fault rows = subst (λ (xs : List App). IsWhole xs lent logs fault rows) apps_are whole in
-    let wholes : IsWhole shape.spec.apps after logs fault story.rows.now = subst (IsWhole shape.spec.apps after logs fault) (sym rows_are) (subst (λ (ps : List Partition). IsWhole shape.spec.apps ps logs fault rows) same by_apps) in
-    let covers : AreNamedCovered shape.partitions after place story.rows.now = subst (AreNamedCovered shape.partitions after place) (asked_is ∙ sym rows_are) s.covers in
-    told_by shape after about verdict fault story text is_shape named in_folder of_verdict (own ∙ at) counts notes page trues wholes
-    (subst (λ (o : Option Place). AreNamedCovered shape.partitions after o story.rows.now) (sym own) covers) (says ∙ ap (λ (ps : List Partition). story_text ps story) final_is)
+    let here : AreNamedCovered shape.partitions old place asked = subst (λ (fs : List Folded). AreNamedCovered shape.partitions fs place asked) s.same s.covers in
+    let covered : AreNamedCovered shape.partitions old (place_of fault) story.rows.now =
+    subst (λ (o : Option Place). AreNamedCovered shape.partitions old o story.rows.now) at (subst (AreNamedCovered shape.partitions old place) (asked_is ∙ sym rows_are) here) in
+    let scene_is : IsSceneBy scene shape.spec.apps old about.logs.now (place_of fault) headers = subst (λ (o : Option Place). IsSceneBy scene shape.spec.apps old about.logs.now o headers) at of in
+    let heads_are = subst (λ (o : Option Place). AreHeadersThere known shape old o headers) at heads in
+    let times_are = subst (λ (rs : List Row). AreRowTimes known shape rs times) (timed_is ∙ sym rows_are) has_times in
+    subst (λ (fs : List Folded). IsToldBy known shape fs about verdict text) (sym s.same)
+    (told_by known shape old about verdict fault story text scene headers times is_shape named in_folder of_verdict (own ∙ at) counts notes page scene_is (subst (AreSo scene fault) (sym rows_are) so) covered heads_are times_are says)
+
+-- the headers are so still, once more was read
+pub headers_still : (known : ℕ → Known) (shape : EvidenceParts) (before after : List Folded) (place : Option Place) (headers : List Header) → AreKept before after → AreHeadersThere known shape before place headers → AreHeadersThere known shape after place headers
+headers_still known shape before after place headers kept h =
+    record { also = h.also; read_also = h.read_also; are = λ e is_shape is spec has there. h.are e is_shape is spec (folds_before e before after kept has) there }
+
+pub told_still : (known : ℕ → Known) (shape : EvidenceParts) (read : List Folded) (about : About) (verdict again : Verdict) (text : List ℕ) → again ≡ verdict → IsToldBy known shape read about again text → IsToldBy known shape read about verdict text
+told_still known shape read about verdict again text same told = subst (λ v. IsToldBy known shape read about v text) same told

@@ -26,6 +26,7 @@ use Rattle.eos_story.specs.Wholeness.{IsWhole}
 use Rattle.eos_explaining.specs.declared.whole_story.Story.{Story}
 use Rattle.eos_explaining.specs.Seen.{seen_logs}
 use Rattle.eos_explaining.specs.Stories.{story_text}
+use Rattle.eos_explaining.specs.Told.{row_time}
 
 -- the code of a fault's kind: its phase, a dot, and its number
 abbrev pub code_of : Fault → List ℕ
@@ -53,7 +54,7 @@ pub record IsStoryOf (folder : List ℕ) (e : EvidenceParts) (logs : List PartLo
   pub page : HasItsPage verdict (option_copied story.page)
   pub counted : story.counts.now ≡ counts_line told
   pub notes : AreAllNotes e story.notes.now
-  pub says : text ≡ story_text e.partitions story
+  pub says : text ≡ story_text (row_time e.partitions) story
 
 -- all faults of the evidence, each as a verdict names it
 pub record AreTold (e : EvidenceParts) (logs : List PartLog) (told : List Verdict) : Type 0 where

@@ -44,8 +44,9 @@ when_text (Some time) = codes " at " ++ time_text time
 
 -- ---- its line
 
-unfoldable pub told_line : Option Place → List Partition → Row → List ℕ
-told_line fault partitions row = terms_text (before_first is_end (row_line fault row)) ++ (when_text (row_time partitions row) ++ codes "\n")
+-- with the time that `time_of` has for it, as `row_time` of the partitions
+unfoldable pub told_line : Option Place → (Row → Option ℤ) → Row → List ℕ
+told_line fault time_of row = terms_text (before_first is_end (row_line fault row)) ++ (when_text (time_of row) ++ codes "\n")
 
-abbrev pub told_lines : Option Place → List Partition → List Row → List (List ℕ)
-told_lines fault partitions all = distinct (map (told_line fault partitions) all)
+abbrev pub told_lines : Option Place → (Row → Option ℤ) → List Row → List (List ℕ)
+told_lines fault time_of all = distinct (map (told_line fault time_of) all)

@@ -5,3 +5,6 @@ pub mod Counting
 pub mod Kinds
 pub mod Again
 pub mod Untold
+pub mod HeadersRead
+pub mod Seen
+pub mod Times

@@ -1,40 +1,41 @@
-//! The partitions that a story names, read again: each once, one after the other.
+//! The folds of the partitions that a story names, which are read again for them: each once, one after the other.
 
-ghost use Rattle.std.specs.Prelude.{◌≡◌, false, option_map, None, length, IfOk, IfErr, OnOk};
-ghost use Rattle.eos_sought.specs.Partitions.{partition_named};
+ghost use Rattle.std.specs.Prelude.{◌≡◌, None, List, false, option_map, length, IfOk, IfErr, OnOk};
 ghost use Rattle.std.specs.Option.{option_copied};
 ghost use Rattle.eos_claims.specs.declared.place.Place.{Place as At};
 ghost use Rattle.eos_evidence.specs.Evidence.{segments_of};
+ghost use Rattle.eos_evidence.specs.declared.partition.Partition.{Partition};
+ghost use Rattle.eos_sought.specs.Folded.{AreFolded};
+ghost use Rattle.eos_sought.specs.Partitions.{partition_named};
 ghost use Rattle.eos_source.specs.Said.{known_by};
 ghost use Rattle.eos_source_check.specs.Refusals.{IsUnread};
 ghost use Rattle.eos_explaining.specs.steps.Again.{IsCovered, IsCoveredIf, AreCovered, ReadsMore, SettledIf};
 
 use eos_base::PartitionName;
 use eos_claims::Place;
-use eos_evidence::Partition;
-use eos_sought::partition_named;
+use eos_sought::{Folded, folded_named};
 use eos_source::Source;
-use eos_source_check::{Pieces, Unlisted, partition_again};
+use eos_source_check::{Pieces, Unlisted, folds_again};
 use eos_story::{Row, name_in};
 use std::alloc::Global;
 
-/// Reads the partition of this name, which wasn't read before, if there is one. Whether there is.
+/// Reads the partition of this name, if there is one. Whether there is.
 fn read_new<S: Source>(
     alloc: Global,
     pieces: &Pieces<'_, S>,
-    read: &mut Vec<Partition>,
+    read: &mut Vec<Folded>,
     name: &PartitionName,
 ) -> Result<bool, Unlisted<S::Fault>>
-    requires { partition_named name.now read.old.items ≡ None }
+    requires { (ps : List Partition) → AreFolded ps read.old.items → partition_named name.now ps ≡ None }
     ensures more { OnOk result (ReadsMore (known_by (S.said pieces.now.source.now) (S.is_log pieces.now.source.now)) pieces.now.shape.now.partitions read.old.items read.new.items) }
     ensures same { IfOk result (λ more. more ≡ false → read.new.items ≡ read.old.items) }
     ensures covered { OnOk result (IsCovered pieces.now.shape.now.partitions read.new.items name.now) }
     ensures unread { IfErr result (IsUnread (S.outcomes pieces.now.source.now) (length (segments_of pieces.now.shape.now.partitions))) }
 {
-    match partition_again(alloc, pieces.source, pieces.shape, name)? {
+    match folds_again(alloc, pieces.source, pieces.shape, name)? {
         None => Ok(false),
-        Some(partition) => {
-            read.push(partition)?;
+        Some(folded) => {
+            read.push(folded)?;
             Ok(true)
         }
     }
@@ -44,7 +45,7 @@ fn read_new<S: Source>(
 pub(crate) fn read_name<S: Source>(
     alloc: Global,
     pieces: &Pieces<'_, S>,
-    read: &mut Vec<Partition>,
+    read: &mut Vec<Folded>,
     name: &PartitionName,
 ) -> Result<bool, Unlisted<S::Fault>>
     ensures more { OnOk result (ReadsMore (known_by (S.said pieces.now.source.now) (S.is_log pieces.now.source.now)) pieces.now.shape.now.partitions read.old.items read.new.items) }
@@ -52,8 +53,8 @@ pub(crate) fn read_name<S: Source>(
     ensures covered { OnOk result (IsCovered pieces.now.shape.now.partitions read.new.items name.now) }
     ensures unread { IfErr result (IsUnread (S.outcomes pieces.now.source.now) (length (segments_of pieces.now.shape.now.partitions))) }
 {
-    match partition_named(read.as_slice(), name) {
-        Some(_partition) => Ok(false),
+    match folded_named(read.as_slice(), name) {
+        Some(_folded) => Ok(false),
         None => {
             let more = read_new(alloc, pieces, read, name)?;
             Ok(more)
@@ -65,7 +66,7 @@ pub(crate) fn read_name<S: Source>(
 pub(crate) fn read_if<S: Source>(
     alloc: Global,
     pieces: &Pieces<'_, S>,
-    read: &mut Vec<Partition>,
+    read: &mut Vec<Folded>,
     name: Option<&PartitionName>,
 ) -> Result<bool, Unlisted<S::Fault>>
     ensures more { OnOk result (ReadsMore (known_by (S.said pieces.now.source.now) (S.is_log pieces.now.source.now)) pieces.now.shape.now.partitions read.old.items read.new.items) }
@@ -85,7 +86,7 @@ pub(crate) fn read_if<S: Source>(
 pub(crate) fn read_own<S: Source>(
     alloc: Global,
     pieces: &Pieces<'_, S>,
-    read: &mut Vec<Partition>,
+    read: &mut Vec<Folded>,
     place: Option<&Place>,
 ) -> Result<bool, Unlisted<S::Fault>>
     ensures more { OnOk result (ReadsMore (known_by (S.said pieces.now.source.now) (S.is_log pieces.now.source.now)) pieces.now.shape.now.partitions read.old.items read.new.items) }
@@ -105,7 +106,7 @@ pub(crate) fn read_own<S: Source>(
 pub(crate) fn read_rows<S: Source>(
     alloc: Global,
     pieces: &Pieces<'_, S>,
-    read: &mut Vec<Partition>,
+    read: &mut Vec<Folded>,
     rows: &[Row],
 ) -> Result<bool, Unlisted<S::Fault>>
     ensures more { OnOk result (ReadsMore (known_by (S.said pieces.now.source.now) (S.is_log pieces.now.source.now)) pieces.now.shape.now.partitions read.old.items read.new.items) }

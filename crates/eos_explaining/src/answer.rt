@@ -143,7 +143,7 @@ fn told_of_number<S: Source>(
 {
     let mut read = Vec::new(alloc);
     let told = found.told.as_slice();
-    let parts = seen_logs(alloc, pieces, &mut read, parts_of(judged), told)?;
+    let parts = seen_logs(alloc, pieces, parts_of(judged), told)?;
     let about = About {
         folder: asked.folder,
         counts: found.line.as_str(),
@@ -199,8 +199,8 @@ fn answer_judged<S: Source>(
 
 /// The story of a fault of the evidence, of this number in the list of all, from 1 on; or the line of a yes, or how many faults
 /// there are. The verdict, the list and the records of the story are worked out of what is kept of its logs, as by `check`, and of the list
-/// only that fault is held. Only the partitions that the story names are read again, whole: where batches stand, and what headers say, is
-/// read of their bytes; where it looks for claims, those too of whose topics no application is.
+/// only that fault is held. Only the partitions that the story names are read again: for the folds of their segments, by which its rows are
+/// found, and one after the other for the times of these; where it looks for claims, those too of whose topics no application is.
 #[tactic(auto, using(crate::proofs::Answered::of_judged, crate::proofs::Untold::unjudged))]
 pub(crate) fn explain<S: Source, R: Threads + Sync>(
     alloc: Global,

@@ -7,6 +7,7 @@ mod answer;
 mod batches;
 mod command;
 mod folder;
+mod headers;
 mod kinds;
 mod lines;
 mod paths;
@@ -16,6 +17,7 @@ mod seen;
 mod sentences;
 mod stories;
 mod story;
+mod times;
 mod told;
 mod whole_story;
 

@@ -1,30 +1,19 @@
 //! The logs as a story sees them: what is kept of them; but where it looks for claims, of those of whose topics no application is
 //! the keys, values and claims too.
 
-ghost use Rattle.std.specs.Prelude.{◌≡◌, List, length, IfOk, IfErr, OnOk};
-ghost use Rattle.eos_evidence.specs.Evidence.{EvidenceParts, IsEvidence, segments_of};
-ghost use Rattle.eos_commits.specs.EvidenceLogs.{AreLogsOf};
-ghost use Rattle.eos_fold.specs.Parts.{PartLog};
-ghost use Rattle.eos_reading.specs.Wanted.{kept_log, wanted_log, wanted_logs};
-ghost use Rattle.eos_reading.specs.declared.wanted.Wanted.TheVariants.{Texts};
+ghost use Rattle.std.specs.Prelude.{◌≡◌, length, IfOk, IfErr};
+ghost use Rattle.eos_evidence.specs.Evidence.{IsEvidence, segments_of};
 ghost use Rattle.eos_source.specs.Said.{known_by};
 ghost use Rattle.eos_source_check.specs.Refusals.{IsUnread};
-ghost use Rattle.eos_explaining.specs.Explaining.{AreSeen};
-ghost use Rattle.eos_explaining.specs.Folders.{AreRead, HasThem};
-ghost use Rattle.eos_explaining.specs.Seen.{seen_log, seen_logs};
-ghost use Rattle.eos_explaining.specs.steps.Again.{ReadsMore};
-ghost use Rattle.eos_explaining.specs.steps.Found.{IsItsLog};
+ghost use Rattle.eos_explaining.specs.steps.Seen.{AreTextsBy, IsSeenBy, AreAllSeenBy, AreSeenBy};
 
-use crate::again::read_name;
 use eos_base::PartitionName;
 use eos_check::Verdict;
-use eos_evidence::Partition;
 use eos_kept::{Asked, Logs, Part, told_in};
 use eos_manifest::is_judged;
 use eos_reading::Wanted;
-use eos_sought::partition_named;
 use eos_source::Source;
-use eos_source_check::{Judged, Pieces, Unlisted};
+use eos_source_check::{Judged, Pieces, Unlisted, partition_again};
 use eos_verdict::{Fault, LineageFault};
 use std::alloc::{AllocError, Global};
 
@@ -59,25 +48,21 @@ fn name_of(part: &Part) -> Result<PartitionName, AllocError>
 fn texts_of<S: Source>(
     alloc: Global,
     pieces: &Pieces<'_, S>,
-    read: &mut Vec<Partition>,
     part: Part,
 ) -> Result<Part, Unlisted<S::Fault>>
-    requires evidence { IsEvidence pieces.now.shape.now }
-    requires read { AreRead (known_by (S.said pieces.now.source.now) (S.is_log pieces.now.source.now)) pieces.now.shape.now.partitions read.old.items }
-    ensures more { OnOk result (ReadsMore (known_by (S.said pieces.now.source.now) (S.is_log pieces.now.source.now)) pieces.now.shape.now.partitions read.old.items read.new.items) }
-    ensures seen { IfOk result (λ seen. (e : EvidenceParts) (log : PartLog) → IsEvidence e → e.spec ≡ pieces.now.shape.now.spec → HasThem e read.new.items → IsItsLog e part log → seen ≡ wanted_log Texts log) }
+    requires { IsEvidence pieces.now.shape.now }
+    ensures seen { IfOk result (AreTextsBy (known_by (S.said pieces.now.source.now) (S.is_log pieces.now.source.now)) pieces.now.shape.now part) }
     ensures unread { IfErr result (IsUnread (S.outcomes pieces.now.source.now) (length (segments_of pieces.now.shape.now.partitions))) }
 {
     let name = name_of(&part)?;
-    read_name(alloc, pieces, read, &name)?;
-    match partition_named(read.as_slice(), &name) {
+    match partition_again(alloc, pieces.source, pieces.shape, &name)? {
         None => Ok(part),
         Some(partition) => {
             let asked = Asked {
                 wanted: Wanted::Texts,
                 topics: &[],
             };
-            let told = told_in(alloc, asked, partition)?;
+            let told = told_in(alloc, asked, &partition)?;
             Ok(told.part)
         }
     }
@@ -86,19 +71,16 @@ fn texts_of<S: Source>(
 fn seen_of<S: Source>(
     alloc: Global,
     pieces: &Pieces<'_, S>,
-    read: &mut Vec<Partition>,
     part: Part,
 ) -> Result<Part, Unlisted<S::Fault>>
-    requires { AreRead (known_by (S.said pieces.now.source.now) (S.is_log pieces.now.source.now)) pieces.now.shape.now.partitions read.old.items }
-    ensures more { OnOk result (ReadsMore (known_by (S.said pieces.now.source.now) (S.is_log pieces.now.source.now)) pieces.now.shape.now.partitions read.old.items read.new.items) }
-    ensures seen { IfOk result (λ seen. (e : EvidenceParts) (log : PartLog) → IsEvidence e → e.spec ≡ pieces.now.shape.now.spec → HasThem e read.new.items → IsItsLog e part log → part ≡ kept_log e.spec.apps log → seen ≡ seen_log e.spec.apps log) }
+    ensures seen { IfOk result (IsSeenBy (known_by (S.said pieces.now.source.now) (S.is_log pieces.now.source.now)) pieces.now.shape.now part) }
     ensures unread { IfErr result (IsUnread (S.outcomes pieces.now.source.now) (length (segments_of pieces.now.shape.now.partitions))) }
 {
     let apps = pieces.shape.spec().apps().as_slice();
     if is_judged(apps, part.topic().as_slice()) {
         return Ok(part);
     }
-    let texts = texts_of(alloc, pieces, read, part)?;
+    let texts = texts_of(alloc, pieces, part)?;
     Ok(texts)
 }
 
@@ -106,17 +88,14 @@ fn seen_of<S: Source>(
 fn all_seen<S: Source>(
     alloc: Global,
     pieces: &Pieces<'_, S>,
-    read: &mut Vec<Partition>,
     parts: Vec<Part>,
 ) -> Result<Vec<Part>, Unlisted<S::Fault>>
-    requires { AreRead (known_by (S.said pieces.now.source.now) (S.is_log pieces.now.source.now)) pieces.now.shape.now.partitions read.old.items }
-    ensures more { OnOk result (ReadsMore (known_by (S.said pieces.now.source.now) (S.is_log pieces.now.source.now)) pieces.now.shape.now.partitions read.old.items read.new.items) }
-    ensures seen { IfOk result (λ seen. (e : EvidenceParts) (logs : List PartLog) → IsEvidence e → e.spec ≡ pieces.now.shape.now.spec → HasThem e read.new.items → AreLogsOf e.partitions logs → parts.items ≡ wanted_logs e.spec.apps logs → seen.items ≡ seen_logs e.spec.apps logs) }
+    ensures seen { IfOk result (λ seen. AreAllSeenBy (known_by (S.said pieces.now.source.now) (S.is_log pieces.now.source.now)) pieces.now.shape.now parts.items seen.items) }
     ensures unread { IfErr result (IsUnread (S.outcomes pieces.now.source.now) (length (segments_of pieces.now.shape.now.partitions))) }
 {
     let mut seen = Vec::new(alloc);
     for part in parts {
-        let one = seen_of(alloc, pieces, read, part)?;
+        let one = seen_of(alloc, pieces, part)?;
         seen.push(one)?;
     }
     Ok(seen)
@@ -131,22 +110,19 @@ pub(crate) fn parts_of(judged: Judged) -> Vec<Part>
     parts
 }
 
-/// These logs, as stories of these faults see them.
+/// These logs, as stories of these faults see them. Each partition that is read again for them is dropped before the next one is read.
 pub(crate) fn seen_logs<S: Source>(
     alloc: Global,
     pieces: &Pieces<'_, S>,
-    read: &mut Vec<Partition>,
     parts: Vec<Part>,
     told: &[Verdict],
 ) -> Result<Vec<Part>, Unlisted<S::Fault>>
-    requires { AreRead (known_by (S.said pieces.now.source.now) (S.is_log pieces.now.source.now)) pieces.now.shape.now.partitions read.old.items }
-    ensures more { OnOk result (ReadsMore (known_by (S.said pieces.now.source.now) (S.is_log pieces.now.source.now)) pieces.now.shape.now.partitions read.old.items read.new.items) }
-    ensures seen { IfOk result (λ seen. (e : EvidenceParts) (logs : List PartLog) → IsEvidence e → e.spec ≡ pieces.now.shape.now.spec → HasThem e read.new.items → AreLogsOf e.partitions logs → parts.items ≡ wanted_logs e.spec.apps logs → AreSeen e logs seen.items) }
+    ensures seen { IfOk result (λ seen. AreSeenBy (known_by (S.said pieces.now.source.now) (S.is_log pieces.now.source.now)) pieces.now.shape.now parts.items seen.items) }
     ensures unread { IfErr result (IsUnread (S.outcomes pieces.now.source.now) (length (segments_of pieces.now.shape.now.partitions))) }
 {
     if !is_of_claims(told) {
         return Ok(parts);
     }
-    let seen = all_seen(alloc, pieces, read, parts)?;
+    let seen = all_seen(alloc, pieces, parts)?;
     Ok(seen)
 }

@@ -24,7 +24,7 @@ use crate::story::{About, story_of};
 use eos_base::Workers;
 use eos_check::Verdict;
 use eos_disk::{Disk, FolderFault, Shape, Watch, read_shape};
-use eos_evidence::Partition;
+use eos_sought::Folded;
 use eos_source::{Folder, FolderSource, Source};
 use eos_source_check::{Judged, Pieces, Unlisted, judge_source, refusal_of};
 use std::alloc::Global;
@@ -42,13 +42,13 @@ pub struct First {
 fn told_each<S: Source>(
     alloc: Global,
     pieces: &Pieces<'_, S>,
-    read: &mut Vec<Partition>,
+    read: &mut Vec<Folded>,
     about: &About<'_>,
     told: &[Verdict],
 ) -> Result<Vec<String>, Unlisted<S::Fault>>
     requires { (faults : List AFault) × (told.now ≡ map No faults) }
     ensures more { OnOk result (ReadsMore (known_by (S.said pieces.now.source.now) (S.is_log pieces.now.source.now)) pieces.now.shape.now.partitions read.old.items read.new.items) }
-    ensures told { IfOk result (λ texts. AreToldBy pieces.now.shape.now read.new.items about.now told.now (map string_bytes texts.items)) }
+    ensures told { IfOk result (λ texts. AreToldBy (known_by (S.said pieces.now.source.now) (S.is_log pieces.now.source.now)) pieces.now.shape.now read.new.items about.now told.now (map string_bytes texts.items)) }
     ensures unread { IfErr result (IsUnread (S.outcomes pieces.now.source.now) (pieces_of pieces.now.shape.now)) }
 {
     let mut texts = Vec::new(alloc);
@@ -74,7 +74,7 @@ fn of_findings<S: Source>(
 {
     let mut read = Vec::new(alloc);
     let told = found.told.as_slice();
-    let parts = seen_logs(alloc, pieces, &mut read, parts_of(judged), told)?;
+    let parts = seen_logs(alloc, pieces, parts_of(judged), told)?;
     let about = About {
         folder,
         counts: found.line.as_str(),

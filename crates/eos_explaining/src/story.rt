@@ -1,5 +1,5 @@
-//! The story of one of all faults, told over the partitions that it names. These are read again: its rows are found over those that were
-//! read, and again once a further one was that they name, until there is none.
+//! The story of one of all faults, told over the partitions that it names. These are read again for the folds of their segments: its rows are
+//! found by those that were read, and again once a further one was that they name, until there is none.
 
 ghost use Rattle.std.specs.Prelude.{◌≡◌, length, IfOk, IfErr, IfSome, OnOk, string_bytes};
 ghost use Rattle.std.specs.Option.{option_copied};
@@ -11,15 +11,18 @@ ghost use Rattle.eos_source.specs.Said.{known_by};
 ghost use Rattle.eos_source_check.specs.Refusals.{IsUnread};
 ghost use Rattle.eos_story.specs.PlaceOfFault.{place_of as place_of_fault};
 ghost use Rattle.eos_explaining.specs.Explaining.{code_of};
-ghost use Rattle.eos_explaining.specs.steps.Again.{AreNamedCovered, ReadsMore, SettledIf, IsToldBy};
+ghost use Rattle.eos_explaining.specs.steps.Again.{AreNamedCovered, AreHeadersThere, ReadsMore, SettledIf, IsToldBy};
 
 use crate::again::{read_own, read_rows};
+use crate::headers::own_headers;
+use crate::times::row_times;
 use crate::{Story, story_text};
+use eos_batch::Header;
 use eos_check::{Fault, Verdict};
 use eos_claims::Place;
-use eos_evidence::Partition;
 use eos_kept::Part;
 use eos_notes::Note;
+use eos_sought::Folded;
 use eos_source::Source;
 use eos_source_check::{Pieces, Unlisted};
 use eos_story::{Row, Scene, place_of, rows_of};
@@ -46,19 +49,20 @@ pub(crate) struct About<'a> {
     pub(crate) logs: &'a [Part],
 }
 
-/// The fault that a verdict names, and its place, if it has one.
+/// The fault that a verdict names, its place, if it has one, and the headers of the record there.
 #[derive(Clone, Copy)]
 struct Of<'a> {
     verdict: &'a Verdict,
     fault: &'a Fault,
     place: &'a Option<Place>,
+    headers: &'a [Header],
 }
 
 /// Reads the partitions that a fault and these rows name, but for those that were read. Whether one was read now.
 fn read_named<S: Source>(
     alloc: Global,
     pieces: &Pieces<'_, S>,
-    read: &mut Vec<Partition>,
+    read: &mut Vec<Folded>,
     place: Option<&Place>,
     rows: &[Row],
 ) -> Result<bool, Unlisted<S::Fault>>
@@ -75,14 +79,15 @@ fn read_named<S: Source>(
 fn told_once<S: Source>(
     alloc: Global,
     pieces: &Pieces<'_, S>,
-    read: &mut Vec<Partition>,
+    read: &mut Vec<Folded>,
     about: &About<'_>,
     of: Of<'_>,
 ) -> Result<Option<String>, Unlisted<S::Fault>>
     requires names { of.verdict.now ≡ No of.fault.now }
     requires place { of.place.now ≡ place_of_fault of.fault.now }
+    requires headers { AreHeadersThere (known_by (S.said pieces.now.source.now) (S.is_log pieces.now.source.now)) pieces.now.shape.now read.old.items of.place.now of.headers.now }
     ensures more { OnOk result (ReadsMore (known_by (S.said pieces.now.source.now) (S.is_log pieces.now.source.now)) pieces.now.shape.now.partitions read.old.items read.new.items) }
-    ensures told { IfOk result (λ told. IfSome told (λ text. IsToldBy pieces.now.shape.now read.new.items about.now of.entry.verdict.now (string_bytes text))) }
+    ensures told { IfOk result (λ told. IfSome told (λ text. IsToldBy (known_by (S.said pieces.now.source.now) (S.is_log pieces.now.source.now)) pieces.now.shape.now read.new.items about.now of.entry.verdict.now (string_bytes text))) }
     ensures unread { IfErr result (IsUnread (S.outcomes pieces.now.source.now) (length (segments_of pieces.now.shape.now.partitions))) }
 {
     let scene = Scene {
@@ -90,11 +95,14 @@ fn told_once<S: Source>(
         apps: pieces.shape.spec().apps().as_slice(),
         partitions: read.as_slice(),
         logs: about.logs,
+        place: of.place.as_ref(),
+        headers: of.headers,
     };
     let rows = rows_of(&scene, of.fault)?;
     if read_named(alloc, pieces, read, of.place.as_ref(), rows.as_slice())? {
         return Ok(None);
     }
+    let times = row_times(alloc, pieces, rows.as_slice())?;
     let page = page_for(alloc, of.fault)?;
     let story = Story {
         folder: about.folder,
@@ -105,7 +113,7 @@ fn told_once<S: Source>(
         counts: about.counts,
         notes: about.notes,
     };
-    let text = story_text(alloc, &story, read.as_slice())?;
+    let text = story_text(alloc, &story, times.as_slice())?;
     Ok(Some(text))
 }
 
@@ -113,18 +121,18 @@ fn told_once<S: Source>(
 fn told_of<S: Source>(
     alloc: Global,
     pieces: &Pieces<'_, S>,
-    read: &mut Vec<Partition>,
+    read: &mut Vec<Folded>,
     about: &About<'_>,
     of: Of<'_>,
 ) -> Result<String, Unlisted<S::Fault>>
     requires names { of.verdict.now ≡ No of.fault.now }
     requires place { of.place.now ≡ place_of_fault of.fault.now }
+    requires headers { AreHeadersThere (known_by (S.said pieces.now.source.now) (S.is_log pieces.now.source.now)) pieces.now.shape.now read.old.items of.place.now of.headers.now }
     ensures more { OnOk result (ReadsMore (known_by (S.said pieces.now.source.now) (S.is_log pieces.now.source.now)) pieces.now.shape.now.partitions read.old.items read.new.items) }
-    ensures told { IfOk result (λ text. IsToldBy pieces.now.shape.now read.new.items about.now of.entry.verdict.now (string_bytes text)) }
+    ensures told { IfOk result (λ text. IsToldBy (known_by (S.said pieces.now.source.now) (S.is_log pieces.now.source.now)) pieces.now.shape.now read.new.items about.now of.entry.verdict.now (string_bytes text)) }
     ensures unread { IfErr result (IsUnread (S.outcomes pieces.now.source.now) (length (segments_of pieces.now.shape.now.partitions))) }
 {
     let rounds = pieces.shape.partitions().len();
-    read_own(alloc, pieces, read, of.place.as_ref())?;
     for _ in 0..rounds {
         if let Some(text) = told_once(alloc, pieces, read, about, of)? {
             return Ok(text);
@@ -144,23 +152,25 @@ fn told_of<S: Source>(
 pub(crate) fn story_of<S: Source>(
     alloc: Global,
     pieces: &Pieces<'_, S>,
-    read: &mut Vec<Partition>,
+    read: &mut Vec<Folded>,
     about: &About<'_>,
     verdict: &Verdict,
 ) -> Result<String, Unlisted<S::Fault>>
     requires names { (fault : AFault) × (verdict.now ≡ No fault) }
     ensures more { OnOk result (ReadsMore (known_by (S.said pieces.now.source.now) (S.is_log pieces.now.source.now)) pieces.now.shape.now.partitions read.old.items read.new.items) }
-    ensures told { IfOk result (λ text. IsToldBy pieces.now.shape.now read.new.items about.now verdict.now (string_bytes text)) }
+    ensures told { IfOk result (λ text. IsToldBy (known_by (S.said pieces.now.source.now) (S.is_log pieces.now.source.now)) pieces.now.shape.now read.new.items about.now verdict.now (string_bytes text)) }
     ensures unread { IfErr result (IsUnread (S.outcomes pieces.now.source.now) (length (segments_of pieces.now.shape.now.partitions))) }
 {
     match verdict {
         Verdict::Yes(_) => unreachable!(),
         Verdict::No(fault) => {
             let place = place_of(alloc, fault)?;
+            let headers = own_headers(alloc, pieces, read, place.as_ref())?;
             let of = Of {
                 verdict,
                 fault,
                 place: &place,
+                headers: headers.as_slice(),
             };
             let text = told_of(alloc, pieces, read, about, of)?;
             Ok(text)

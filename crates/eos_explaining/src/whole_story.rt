@@ -1,10 +1,11 @@
 //! A story and its text.
 
-ghost use Rattle.std.specs.Prelude.{◌≡◌, OnOk, IfOk, take, string_bytes};
+ghost use Rattle.std.specs.Prelude.{◌≡◌, ℤ, Option, OnOk, IfOk, map, take, string_bytes};
 ghost use Rattle.std.specs.Option.{option_copied};
 ghost use Rattle.eos_text.specs.Adding.{Adds};
 ghost use Rattle.eos_notes.specs.Texts.{note_lines as lines_of};
 ghost use Rattle.eos_verdict.specs.VerdictTexts.{verdict_line};
+ghost use Rattle.eos_story.specs.declared.row.Row.{Row as ARow};
 ghost use Rattle.eos_explaining.specs.Lines.{AreAmong, AreDistinct};
 ghost use Rattle.eos_explaining.specs.Stories.{lines_of_first, lines_of_story, rows_text, rest_text, page_text, notes_text, next_text, story_text};
 
@@ -15,7 +16,6 @@ use crate::sentences::{push_sentences, shown_of};
 use crate::told::told_lines;
 use eos_check::Verdict;
 use eos_claims::Place;
-use eos_evidence::Partition;
 use eos_notes::{Note, note_lines};
 use eos_story::{Row, Told};
 use eos_text::{Page, push_text};
@@ -74,11 +74,11 @@ fn push_rows(
     alloc: Global,
     out: &mut String,
     story: &Story<'_>,
-    partitions: &[Partition],
+    times: &[Option<i64>],
 ) -> Result<(), AllocError>
-    ensures { OnOk result (Adds (string_bytes out.old) (string_bytes out.new) (rows_text (lines_of_story partitions.now story.now))) }
+    ensures { (time_of : ARow → Option ℤ) → times.now ≡ map time_of story.now.rows.now → OnOk result (Adds (string_bytes out.old) (string_bytes out.new) (rows_text (lines_of_story time_of story.now))) }
 {
-    let lines = told_lines(alloc, story.place, partitions, story.rows)?;
+    let lines = told_lines(alloc, story.place, times, story.rows)?;
     push_joined(out, shown_lines(lines.as_slice()))?;
     push_rest(out, MOST_ROWS, lines.len())?;
     Ok(())
@@ -125,8 +125,8 @@ fn push_next(alloc: Global, out: &mut String, story: &Story<'_>) -> Result<(), A
     push_command(alloc, out, story.folder, &told, shown)
 }
 
-/// The text of a story: the line of its fault, the first lines of its rows, each once and with the time of its record, which these
-/// partitions have, what the fault means and what to do next by what these show, how many faults of each kind there are, the first notes,
+/// The text of a story: the line of its fault, the first lines of its rows, each once and with the time of its record, of which each row
+/// has its own of these, what the fault means and what to do next by what these show, how many faults of each kind there are, the first notes,
 /// and the command to run next. These are 40 lines at most.
 ///
 /// # Errors
@@ -134,14 +134,14 @@ fn push_next(alloc: Global, out: &mut String, story: &Story<'_>) -> Result<(), A
 pub fn story_text(
     alloc: Global,
     story: &Story<'_>,
-    partitions: &[Partition],
+    times: &[Option<i64>],
 ) -> Result<String, AllocError>
-    ensures text { IfOk result (λ text. string_bytes text ≡ story_text partitions.now story.now) }
-    ensures once { IfOk result (λ text. AreDistinct (lines_of_story partitions.now story.now)) }
-    ensures shown { IfOk result (λ text. AreAmong (take 22 (lines_of_story partitions.now story.now)) (lines_of_first partitions.now story.now)) }
+    ensures text { (time_of : ARow → Option ℤ) → times.now ≡ map time_of story.now.rows.now → IfOk result (λ text. string_bytes text ≡ story_text time_of story.now) }
+    ensures once { (time_of : ARow → Option ℤ) → IfOk result (λ text. AreDistinct (lines_of_story time_of story.now)) }
+    ensures shown { (time_of : ARow → Option ℤ) → IfOk result (λ text. AreAmong (take 22 (lines_of_story time_of story.now)) (lines_of_first time_of story.now)) }
 {
     let mut text = verdict_line(alloc, story.verdict)?;
-    push_rows(alloc, &mut text, story, partitions)?;
+    push_rows(alloc, &mut text, story, times)?;
     push_page(alloc, &mut text, story.place, story.rows, story.page)?;
     push_text(&mut text, story.counts)?;
     push_notes(alloc, &mut text, story.notes)?;

@@ -64,7 +64,7 @@ fn group_of<'a>(apps: &[App], app: &'a App) -> Option<&'a GroupId>
 ///
 /// The parts are those of all topics, without a fault of their own, ordered by name. The work is that of `check_lineage` by one
 /// thread, and a walk along claims and inputs in order. The memory is that of the claims and inputs of a range of sources, some
-/// 128 MiB, or where an application's take more than sixteen times as much a sixteenth of them; those of one source are never parted.
+/// 16 MiB, or where an application's take more than sixteen times as much a sixteenth of them; those of one source are never parted.
 /// For each range all records that are kept are walked along, and before the first once more. Of the faults those of one source are
 /// held, whose names are lent.
 ///

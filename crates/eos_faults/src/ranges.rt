@@ -22,8 +22,8 @@ const BYTES_OF_AN_INPUT: usize = 32;
 /// Of so many bytes of claims and inputs the source of one is in the sample, which takes a 250th of their memory.
 const BYTES_OF_A_STEP: usize = 8192;
 
-/// So many steps are a range: 128 MiB. With fewer there is one range, and no more work than the sample.
-const STEPS_OF_A_RANGE: usize = 16384;
+/// So many steps are a range: 16 MiB. With fewer there is one range, and no more work than the sample.
+const STEPS_OF_A_RANGE: usize = 2048;
 
 /// For each range all records that are kept are walked along again, so there are never more than these.
 const MOST_RANGES: usize = 16;

@@ -1,5 +1,6 @@
 pub mod Keeping
 pub mod NoState
 pub mod BatchWalks
-pub mod PartitionWalks
+pub mod FoldedBatches
+pub mod FoldedNames
 mod NoneHeld

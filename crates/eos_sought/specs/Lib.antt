@@ -7,6 +7,7 @@ pub mod steps
 pub mod Wanted
 pub mod Places
 pub mod Partitions
+pub mod Folded
 pub mod Times
 pub mod Batches
 pub mod Moments

@@ -1,6 +1,6 @@
 -- Which batches are wanted.
 -- Source: Kafka's documentation, Message Format, "Record Batch" (baseOffset, lastOffsetDelta, producerId).
-use Rattle.std.specs.Prelude.{ℕ, ◌+◌, Bool, ◌&&◌, not, nat_le, nat_lt}
+use Rattle.std.specs.Prelude.{◌+◌, Bool, ◌&&◌, not, nat_le, nat_lt}
 use Rattle.std.specs.Ordering.{int_eq}
 use Rattle.eos_batch.specs.declared.head.BatchHead.{BatchHead}
 use Rattle.eos_sought.specs.declared.wanted.Wanted.{Wanted}

@@ -1,4 +1,4 @@
 -- What only private functions promise: steps towards what the public calls say.
 pub mod Such
-pub mod Walks
 pub mod Holding
+pub mod Placing

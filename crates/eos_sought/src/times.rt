@@ -1,15 +1,10 @@
 //! When a record was written.
 
-ghost use Rattle.std.specs.Prelude.{◌≡◌, IfOk, slice_get};
-ghost use Rattle.eos_sought.specs.Partitions.{partition_named};
-ghost use Rattle.eos_sought.specs.Times.{record_time, time_of_one, time_in};
+ghost use Rattle.std.specs.Prelude.{◌≡◌, ◌-◌, Some, slice_get};
+ghost use Rattle.eos_sought.specs.Times.{record_time, time_of_one, time_in_batch};
 
-use crate::batch::batch_of;
 use crate::partition::Placed;
-use eos_base::PartitionName;
 use eos_batch::{Batch, Record};
-use eos_evidence::Partition;
-use std::alloc::{AllocError, Global};
 
 /// Bit 3 of a batch's attributes: its time is the broker's.
 const LOG_APPEND_TIME: i16 = 0x08;
@@ -36,25 +31,10 @@ pub fn time_of_number(batch: &Batch, number: u64) -> Option<i64>
     Some(record_time(batch, &records[number as usize]))
 }
 
-/// The time of the record of this offset in the batch that stands there in the partition of this name, in milliseconds since
-/// 1970-01-01T00:00Z, as its batch says it: clocks lie. None where no such batch reads.
-///
-/// # Errors
-/// Only want of memory.
-pub fn time_of(
-    alloc: Global,
-    partitions: &[Partition],
-    name: &PartitionName,
-    placed: Placed,
-    offset: u64,
-) -> Result<Option<i64>, AllocError>
-    ensures { IfOk result (λ time. time ≡ time_in (partition_named name.now partitions.now) placed offset) }
+/// The time of the record of this offset in the batch that stands there, in milliseconds since 1970-01-01T00:00Z, as the batch says
+/// it: clocks lie.
+pub fn time_of(batch: &Batch, placed: Placed, offset: u64) -> Option<i64>
+    ensures { result ≡ time_in_batch (Some batch.now) (offset - placed.standing.head.offset) }
 {
-    match batch_of(alloc, partitions, name, placed)? {
-        None => Ok(None),
-        Some(batch) => {
-            let number = offset.saturating_sub(placed.standing.head.offset);
-            Ok(time_of_number(&batch, number))
-        }
-    }
+    time_of_number(batch, offset.saturating_sub(placed.standing.head.offset))
 }

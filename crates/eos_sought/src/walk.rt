@@ -1,13 +1,14 @@
-//! The walk over a segment.
+//! The batches of a segment.
 
-ghost use Rattle.std.specs.Prelude.{◌≡◌, ◌<◌, ◌++◌, ◌∷◌, [], length, filter, IfOk, OnOk, MatchOption};
+ghost use Rattle.std.specs.Prelude.{◌≡◌, ◌<◌, ◌+◌, ◌++◌, ◌∷◌, [], length, filter, IfOk, OnOk, MatchOption};
+ghost use Rattle.eos_sought.specs.Folded.{wanted_in};
 ghost use Rattle.eos_sought.specs.Wanted.{is_wanted};
-ghost use Rattle.eos_sought.specs.Places.{GoesOn, IsEnd, AreWantedIn};
+ghost use Rattle.eos_sought.specs.Places.{GoesOn, IsEnd};
 
 use crate::wanted::{Standing, Wanted};
 use bytes::Bytes;
-use eos_evidence::Segment;
-use eos_fold::{begin_of, front_head};
+use eos_fold::front_head;
+use eos_fold_file::{FoldFile, FoldHead};
 use std::alloc::{AllocError, Global};
 
 /// The batch at this byte of a segment, where it begins at this offset; None where the segment's batches end there. The batch is
@@ -43,29 +44,43 @@ fn push_wanted(
     Ok(())
 }
 
-/// The batches of a segment that are wanted, in order, as far as each text is a batch and each begins where the one before
-/// ends. All these bytes are read and tested, and nothing else is kept.
+/// The byte and the offset behind a batch that stands there: no segment has as many of either as 64 bits count.
+fn behind(head: &FoldHead, byte: usize, next: u64) -> Result<(usize, u64), AllocError>
+    ensures { IfOk result (λ after. (after.0 ≡ byte + head.now.size) × (after.1 ≡ next + head.now.count)) }
+{
+    match (
+        byte.checked_add(head.size),
+        next.checked_add(u64::from(head.count)),
+    ) {
+        (Some(byte), Some(next)) => Ok((byte, next)),
+        _ => Err(AllocError),
+    }
+}
+
+/// The batches of the segment with this fold that are wanted, in order, each with its byte.
 ///
 /// # Errors
-/// Only want of memory.
+/// Want of memory. A byte or an offset past 64 bits, which no segment has, counts as one.
 pub fn batches_in(
     alloc: Global,
-    segment: &Segment,
+    fold: &FoldFile,
     wanted: Wanted,
 ) -> Result<Vec<Standing>, AllocError>
-    ensures { IfOk result (λ found. AreWantedIn segment.now wanted found.items) }
+    ensures { IfOk result (λ found. found.items ≡ wanted_in fold.now wanted) }
 {
-    let bytes = &segment.bytes;
+    let heads = fold.heads.as_slice();
     let mut found = Vec::new(alloc);
-    let mut at = 0;
-    let mut next = begin_of(segment);
-    while at < bytes.len() {
-        let Some(standing) = next_standing(alloc, bytes, at, next)? else {
-            return Ok(found);
+    let mut byte = 0usize;
+    let mut next = fold.base.unsigned_abs();
+    for head in heads {
+        let standing = Standing {
+            byte,
+            head: head.at(next),
         };
         push_wanted(&mut found, wanted, standing)?;
-        at += standing.head.size;
-        next += u64::from(standing.head.count);
+        let after = behind(head, byte, next)?;
+        byte = after.0;
+        next = after.1;
     }
     Ok(found)
 }

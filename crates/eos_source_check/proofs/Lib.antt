@@ -11,6 +11,7 @@ pub mod EarnedAgain
 pub mod FaultsSame
 pub mod FirstFound
 pub mod LogsAgain
+pub mod FoldsAgain
 pub mod PassedAgain
 pub mod ListedAgain
 pub mod KnownAgain

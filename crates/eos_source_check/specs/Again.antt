@@ -3,6 +3,8 @@ use Rattle.std.specs.Prelude.{◌≡◌, ℕ, suc, ◌+◌, List, [], ◌∷◌,
 use Rattle.eos_base.specs.declared.partition_name.PartitionName.{PartitionName}
 use Rattle.eos_evidence.specs.declared.partition.Partition.{Partition}
 use Rattle.eos_evidence.specs.declared.segment.Segment.{Segment}
+use Rattle.eos_sought.specs.declared.folded.Folded.{Folded}
+use Rattle.eos_sought.specs.Folded.{IsFolded}
 use Rattle.eos_sought.specs.Partitions.{is_named, partition_named}
 use Rattle.eos_source.specs.Said.{Log, Known, IsAsKnown}
 use Rattle.eos_source.specs.Shapes.{IsPiece}
@@ -63,3 +65,18 @@ IsRead known shapes p = IsNamedAgain known 0 shapes (name_of p) (Some p)
 -- these partitions have it as it was read again
 abbrev pub IsThere : List Partition → Partition → Type 0
 IsThere ps p = partition_named (name_of p) ps ≡ Some p
+
+-- ---- the folds of its segments
+
+-- they are those of this partition, or there is none
+abbrev pub AreFoldsOfRead : Option Partition → Option Folded → Type 0
+AreFoldsOfRead None None = ⊤
+AreFoldsOfRead None (Some f) = ⊥
+AreFoldsOfRead (Some p) None = ⊥
+AreFoldsOfRead (Some p) (Some f) = IsFolded p f
+
+-- the first partition of this name was read again, and these are the folds of its segments
+pub record AreFoldsNamed (known : ℕ → Known) (shapes : List Partition) (name : PartitionName) (folded : Option Folded) : Type 0 where
+  pub read : Option Partition
+  pub again : IsNamedAgain known 0 shapes name read
+  pub are : AreFoldsOfRead read folded

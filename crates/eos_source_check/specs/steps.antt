@@ -6,3 +6,4 @@ pub mod FaultsAgain
 pub mod Rising
 pub mod Each
 pub mod JudgedBy
+pub mod FoldsAgain

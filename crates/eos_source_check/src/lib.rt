@@ -26,7 +26,7 @@ mod refused;
 mod rising;
 mod times;
 
-pub use again::partition_again;
+pub use again::{folds_again, partition_again};
 pub use fault::Unlisted;
 pub use judged::{Judged, Noted, judge_noted, judge_source};
 pub use later::later_faults;

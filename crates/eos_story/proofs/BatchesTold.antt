@@ -17,8 +17,8 @@ use Rattle.eos_story.specs.declared.row.Row.{Row}
 use Rattle.eos_story.specs.declared.row.Row.TheVariants as rows
 use Rattle.eos_story.specs.declared.scene.Scene.{Scene}
 use Rattle.eos_story.specs.Questions.{Question, FirstBatch, Batches, Around}
-use Rattle.eos_story.specs.Rows.{AreTrue}
 use Rattle.eos_story.specs.steps.Batches.{AreMoreTold}
+use Rattle.eos_story.specs.steps.Seen.{OfAllSeen, AreTrue}
 use Rattle.eos_story.specs.steps.Telling.{Tells, TellsEach, IsNext}
 use Rattle.eos_story.proofs.RowsGrown.{in_order_grown}
 use Rattle.eos_story.proofs.RowsPushed.{has_taken, has_index}
@@ -50,7 +50,7 @@ all_dropped {X} n xs ys all = λ i d lt. has_all (Has xs) ys all (get_or (drop n
 pub all_taken : {X : Type 0} (n : ℕ) (xs : List X) → All (Has xs) (take n xs)
 all_taken n xs = λ i d lt. has_taken n xs _ (has_index (take n xs) i d lt)
 
-pub around_told : {scene : Scene} {a b c : List Row} (name : PartitionName) (wanted : Wanted) (offset : ℕ) (found shown : List Placed) → AreBatchesOf scene.partitions.now name wanted found → Tells scene a b (StandInOrder (IsBatchRow name wanted) shown) → shown ≡ around offset found
+pub around_told : {scene : Scene} {a b c : List Row} (name : PartitionName) (wanted : Wanted) (offset : ℕ) (found shown : List Placed) → OfAllSeen scene (λ ps. AreBatchesOf ps name wanted found) → Tells scene a b (StandInOrder (IsBatchRow name wanted) shown) → shown ≡ around offset found
     → Tells scene b c (λ told. length shown < length found → Has told (rows.MoreBatches name wanted (length shown) (length found))) → TellsEach scene a c (Around name wanted offset ∷ [])
 around_told {scene} {a} {b} {c} name wanted offset found shown are h e k =
     let R = IsBatchRow name wanted in
@@ -59,10 +59,10 @@ around_told {scene} {a} {b} {c} name wanted offset found shown are h e k =
       added = h.added ++ k.added;
       grown = grown_twice a b c h.added k.added h.grown k.grown;
       are = λ old. k.are (h.are old);
-      answers = (
+      answers = λ ps seen. (
         record {
           found = found;
-          are = are;
+          are = are ps seen;
           in_order = subst (λ (ps : List Placed). StandInOrder R ps c) e kept;
           more = subst (λ (ps : List Placed). length ps < length found → Has c (rows.MoreBatches name wanted (length ps) (length found))) e k.told;
         },
@@ -70,7 +70,7 @@ around_told {scene} {a} {b} {c} name wanted offset found shown are h e k =
       );
     }
 
-pub batches_told : {scene : Scene} {a b c : List Row} (name : PartitionName) (wanted : Wanted) (most : ℕ) (found shown : List Placed) → AreBatchesOf scene.partitions.now name wanted found → Tells scene a b (StandInOrder (IsBatchRow name wanted) shown) → shown ≡ take most found
+pub batches_told : {scene : Scene} {a b c : List Row} (name : PartitionName) (wanted : Wanted) (most : ℕ) (found shown : List Placed) → OfAllSeen scene (λ ps. AreBatchesOf ps name wanted found) → Tells scene a b (StandInOrder (IsBatchRow name wanted) shown) → shown ≡ take most found
     → Tells scene b c (λ told. most < length found → Has told (rows.MoreBatches name wanted most (length found))) → TellsEach scene a c (Batches name wanted most ∷ [])
 batches_told {scene} {a} {b} {c} name wanted most found shown are h e k =
     let R = IsBatchRow name wanted in
@@ -79,7 +79,7 @@ batches_told {scene} {a} {b} {c} name wanted most found shown are h e k =
       added = h.added ++ k.added;
       grown = grown_twice a b c h.added k.added h.grown k.grown;
       are = λ old. k.are (h.are old);
-      answers = (record { found = found; are = are; in_order = subst (λ (ps : List Placed). StandInOrder R ps c) e kept; more = k.told }, tt);
+      answers = λ ps seen. (record { found = found; are = are ps seen; in_order = subst (λ (shown : List Placed). StandInOrder R shown c) e kept; more = k.told }, tt);
     }
 
 pub more_told : {scene : Scene} {a b : List Row} {all : ℕ} (found : Found) (most : ℕ) (kept : PartitionName) → (AreTrue scene a → AreTrue scene b) → IsNext a (rows.MoreBatches kept found.wanted most all) b → kept ≡ found.name.now → all ≡ length found.batches.now
@@ -95,7 +95,7 @@ pub first_more : {scene : Scene} {a b c : List Row} {placed : Option Placed} (wa
 first_more {scene} {a} {b} {c} {placed} wanted names i name h k lt is =
     let ask = λ (n : PartitionName). FirstBatch n wanted in
     let e : map ask (take (i + 1) names) ≡ map ask (take i names) ++ ask name ∷ [] = ap (map ask) (one_more names i name lt is) ∙ map-append ask (take i names) (name ∷ []) in
-    subst (TellsEach scene a c) (sym e) (then h (told_each (ask name ∷ []) (λ has. ((placed, has), tt)) k))
+    subst (TellsEach scene a c) (sym e) (then h (told_each (ask name ∷ []) (λ has ps seen. ((placed, has), tt)) k))
 
 -- ---- the end of a partition
 

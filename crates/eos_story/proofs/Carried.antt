@@ -39,14 +39,14 @@ use Rattle.eos_verdict.specs.declared.verdict.Fault.TheVariants as faults
 batches_carried : (ps qs : List Partition) (name : PartitionName) (wanted : Wanted) (found : List Placed) → partition_named name ps ≡ partition_named name qs → AreBatchesOf ps name wanted found → AreBatchesOf qs name wanted found
 batches_carried ps qs name wanted found e h = subst (λ (p : Option Partition). AreOf p wanted found) e h
 
-first_carried : (ps qs : List Partition) (name : PartitionName) (wanted : Wanted) (placed : Option Placed) → partition_named name ps ≡ partition_named name qs → IsFirst ps name wanted placed → IsFirst qs name wanted placed
+pub first_carried : (ps qs : List Partition) (name : PartitionName) (wanted : Wanted) (placed : Option Placed) → partition_named name ps ≡ partition_named name qs → IsFirst ps name wanted placed → IsFirst qs name wanted placed
 first_carried ps qs name wanted placed e h = record { found = h.found; are = batches_carried ps qs name wanted h.found e h.are; first = h.first }
 
 headers_same : (ps qs : List Partition) (name : PartitionName) (offset : ℕ) (spot : Option Placed) → partition_named name ps ≡ partition_named name qs → headers_at ps name offset spot ≡ headers_at qs name offset spot
 headers_same ps qs name offset None e = refl
 headers_same ps qs name offset (Some p) e = ap (λ (q : Option Partition). headers_in (batch_in q p) (offset - p.standing.head.offset)) e
 
-headers_carried : (ps qs : List Partition) (place : Place) (headers : List Header) → partition_named place.partition ps ≡ partition_named place.partition qs → AreHeadersOf ps place headers → AreHeadersOf qs place headers
+pub headers_carried : (ps qs : List Partition) (place : Place) (headers : List Header) → partition_named place.partition ps ≡ partition_named place.partition qs → AreHeadersOf ps place headers → AreHeadersOf qs place headers
 headers_carried ps qs place headers e h = record {
   spot = h.spot;
   holds = first_carried ps qs place.partition (Holding place.offset) h.spot e h.holds;

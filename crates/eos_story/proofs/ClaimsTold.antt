@@ -17,7 +17,7 @@ use Rattle.eos_story.specs.Questions.{Claims}
 use Rattle.eos_story.specs.steps.Claims.{IsClaimTold, AreClaimsTold}
 use Rattle.eos_story.specs.steps.Telling.{Tells, TellsEach, IsRecordBehind, IsRestTold}
 use Rattle.eos_story.proofs.RowsGrown.{has_grown, in_order_grown, end_grown, ends_grown, ends_more, in_order_more}
-use Rattle.eos_story.proofs.RowsTold.{told_both, told_as, records_told, one_more, grown_twice}
+use Rattle.eos_story.proofs.RowsTold.{told_both, told_as, first_shown, one_more, grown_twice}
 
 pub ending_told : {scene : Scene} {a b c : List Row} (name : PartitionName) (producer : ℤ) (offset : ℕ) (marker : Option Placed) → Tells scene a b (λ told. Has told (rows.First name (Ending producer offset) marker)) → Tells scene b c (IsDecided scene.logs.now producer marker)
     → Tells scene a c (IsEndingShown scene.logs.now name producer offset)
@@ -54,6 +54,6 @@ pub claims_told : {scene : Scene} {a b c : List Row} (sought : Sought) (most cou
     → shown ≡ take most (all_of sought scene.logs.now) → TellsEach scene a c (Claims sought most ∷ [])
 claims_told {scene} {a} {b} {c} sought most count shown number h k first =
     let logs = scene.logs.now in
-    let told = records_told sought most count shown (all_of sought logs) refl number (told_as (StandInOrder (IsRecordRow sought) shown) (λ t. t.0) h) k first in
+    let told = first_shown sought most count shown (all_of sought logs) refl number (told_as (StandInOrder (IsRecordRow sought) shown) (λ t. t.0) h) k first in
     let ends : AreEndsShown logs shown c = subst (AreEndsShown logs shown) (sym k.grown) (ends_grown logs shown b k.added h.told.1) in
-    record { added = told.added; grown = told.grown; are = told.are; answers = ((told.answers.0, subst (λ (fs : List Find). AreEndsShown logs fs c) first ends), tt) }
+    record { added = told.added; grown = told.grown; are = told.are; answers = λ ps seen. ((told.told, subst (λ (fs : List Find). AreEndsShown logs fs c) first ends), tt) }

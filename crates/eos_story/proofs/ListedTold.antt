@@ -12,7 +12,8 @@ use Rattle.eos_story.specs.declared.row.Row.TheVariants as rows
 use Rattle.eos_story.specs.declared.scene.Scene.{Scene}
 use Rattle.eos_story.specs.Listings.{listed_by}
 use Rattle.eos_story.specs.Questions.{Listed, rest_listed, decision, lister, listed_open}
-use Rattle.eos_story.specs.Rows.{AreListed, AreTrue}
+use Rattle.eos_story.specs.Rows.{AreListed}
+use Rattle.eos_story.specs.steps.Seen.{AreTrue}
 use Rattle.eos_story.specs.steps.Telling.{Tells, TellsEach, IsNext}
 use Rattle.eos_story.proofs.RowsTold.{told_each, told_next, next_has, each_as, nothing}
 
@@ -40,4 +41,4 @@ pub rest_more : {scene : Scene} {a b : List Row} (sought : Sought) (all : ℕ) �
 rest_more {scene} {a} {b} sought all are is lt =
     let some : rest_listed sought all ≡ Listed sought 6 all ∷ [] = rw (lt-leb all 6 lt) refl in
     let more : Row = rows.MorePartitions 6 all sought in
-    each_as (rest_listed sought all) (sym some) (told_each (Listed sought 6 all ∷ []) (λ has. (has, tt)) (told_next more (λ told. Has told more) are is (next_has a b more is)))
+    each_as (rest_listed sought all) (sym some) (told_each (Listed sought 6 all ∷ []) (λ has ps seen. (has, tt)) (told_next more (λ told. Has told more) are is (next_has a b more is)))

@@ -17,30 +17,34 @@ use Rattle.eos_story.specs.declared.row.Row.{Row}
 use Rattle.eos_story.specs.declared.row.Row.TheVariants as rows
 use Rattle.eos_story.specs.declared.scene.Scene.{Scene}
 use Rattle.eos_story.specs.Questions.{Around, Records, Latest, listing, markers_of, ending_epoch, ending, between, of_pair, of_open, others_past}
+use Rattle.eos_story.specs.steps.Seen.{OfAllSeen}
 use Rattle.eos_story.specs.steps.Telling.{Tells, TellsEach}
 use Rattle.eos_story.specs.Wholeness.{IsPairTold, IsOpenTold, last_end}
 use Rattle.eos_story.proofs.RowsGrown.{has_grown}
 use Rattle.eos_story.proofs.RowsTold.{each_told, each_as, then, grown_twice}
 
-pub pair_told : {scene : Scene} {a b : List Row} (name : PartitionName) (producer : ℤ) (offset : ℕ) (found : List Placed) (before : Option Placed) → AreBatchesOf scene.partitions.now name (Of producer) found → before ≡ slice_get found (count_below offset found - 1)
-    → TellsEach scene a b (of_pair scene.logs.now name producer offset before) → Tells scene a b (IsPairTold scene.partitions.now scene.logs.now name producer offset)
+pub pair_told : {scene : Scene} {a b : List Row} (name : PartitionName) (producer : ℤ) (offset : ℕ) (found : List Placed) (before : Option Placed) → OfAllSeen scene (λ ps. AreBatchesOf ps name (Of producer) found) → before ≡ slice_get found (count_below offset found - 1)
+    → TellsEach scene a b (of_pair scene.logs.now name producer offset before) → Tells scene a b (λ told. OfAllSeen scene (λ ps. IsPairTold ps scene.logs.now name producer offset told))
 pair_told {scene} {a} {b} name producer offset found before are e h =
-    let ps = scene.partitions.now in
     let logs = scene.logs.now in
-    each_told (IsPairTold ps logs name producer offset) (λ told. record { found = found; are = are; answers = subst (λ (p : Option Placed). AnswersEach ps logs b (of_pair logs name producer offset p)) e told }) h
+    each_told (λ rows. OfAllSeen scene (λ ps. IsPairTold ps logs name producer offset rows)) (λ told ps seen. record {
+      found = found;
+      are = are ps seen;
+      answers = subst (λ (p : Option Placed). AnswersEach ps logs b (of_pair logs name producer offset p)) e (told ps seen);
+    }) h
 
-pub open_told : {scene : Scene} {a b c : List Row} {from : ℕ} (name : PartitionName) (producer : ℤ) (markers : List Placed) (first : Option Placed) → AreBatchesOf scene.partitions.now name (Ending producer 0) markers → from ≡ last_end markers
-    → Tells scene a b (λ told. Has told (rows.First name (Open producer from) first)) → TellsEach scene b c (of_open scene.logs.now producer first) → Tells scene a c (IsOpenTold scene.partitions.now scene.logs.now name producer)
+pub open_told : {scene : Scene} {a b c : List Row} {from : ℕ} (name : PartitionName) (producer : ℤ) (markers : List Placed) (first : Option Placed) → OfAllSeen scene (λ ps. AreBatchesOf ps name (Ending producer 0) markers) → from ≡ last_end markers
+    → Tells scene a b (λ told. Has told (rows.First name (Open producer from) first)) → TellsEach scene b c (of_open scene.logs.now producer first) → Tells scene a c (λ told. OfAllSeen scene (λ ps. IsOpenTold ps scene.logs.now name producer told))
 open_told {scene} {a} {b} {c} {from} name producer markers first are e h k = record {
   added = h.added ++ k.added;
   grown = grown_twice a b c h.added k.added h.grown k.grown;
   are = λ old. k.are (h.are old);
-  told = record {
+  told = λ ps seen. record {
     markers = markers;
-    are = are;
+    are = are ps seen;
     first = first;
     shown = subst (λ n. Has c (rows.First name (Open producer n) first)) e (subst (λ (told : List Row). Has told (rows.First name (Open producer from) first)) (sym k.grown) (has_grown b k.added _ h.told));
-    answers = k.answers;
+    answers = k.answers ps seen;
   };
 }
 

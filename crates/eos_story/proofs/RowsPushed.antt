@@ -1,18 +1,16 @@
 -- Rows that are put at the end, one after the other.
-use Rattle.std.proofs.Common.{◌≡◌, ℕ, ◌+◌, ◌<◌, suc, zero, List, [], ◌∷◌, ◌++◌, length, take, get_or, refl, sym, ap, subst, ◌∙◌, arith, inl, inr, Some, None, Option, slice_get}
+use Rattle.std.proofs.Common.{◌≡◌, ℕ, ◌+◌, ◌<◌, suc, zero, List, [], ◌∷◌, ◌++◌, length, take, get_or, refl, sym, ap, subst, ◌∙◌, arith, inl, inr, Option, slice_get}
 use Rattle.std.specs.List.{All}
 use Rattle.eos_base.specs.declared.partition_name.PartitionName.{PartitionName}
 use Rattle.eos_base.specs.Members.{Has}
 use Rattle.eos_evidence.specs.declared.partition.Partition.{Partition}
-use Rattle.eos_evidence.specs.declared.segment.Segment.{Segment}
-use Rattle.eos_fold.specs.Fronts.{base_of}
 use Rattle.eos_fold.specs.Parts.{PartLog}
 use Rattle.eos_sought.specs.declared.partition.Placed.{Placed}
 use Rattle.eos_sought.specs.declared.wanted.Wanted.{Wanted}
 use Rattle.eos_sought.specs.declared.wanted.Wanted.TheVariants.{Holding}
-use Rattle.eos_sought.specs.Partitions.{partition_named, AreBatchesOf}
+use Rattle.eos_sought.specs.Partitions.{AreBatchesOf}
 use Rattle.eos_sought.specs.declared.sought.Sought.{Sought}
-use Rattle.eos_story.specs.Rows.{IsOneOf, IsRecordAt, IsSegmentOf}
+use Rattle.eos_story.specs.Rows.{IsOneOf, IsRecordAt}
 use Rattle.eos_sought.specs.declared.finding.Find.{Find}
 use Rattle.eos_sought.specs.declared.finding.Finds.{Finds}
 use Rattle.eos_sought.specs.Finds.{AreFirst, all_of}
@@ -44,13 +42,3 @@ pub record_at : (ps : List Partition) (logs : List PartLog) (sought shown : Soug
 record_at ps logs sought shown find kept found slice spot has is same are lent first =
     let h : Has (all_of shown logs) find = subst (λ (s : Sought). Has (all_of s logs) find) (sym is) has in
     subst (λ (f : Find). IsRecordAt ps logs f spot (all_of shown logs)) (sym same) (record { has = h; holds = record { found = found; are = are; first = first ∙ ap (λ (xs : List Placed). slice_get xs 0) lent } })
-
-pub segment_of : (ps : List Partition) (name shown : PartitionName) (p : Partition) (s : Segment) (base size : ℕ) → partition_named name ps ≡ Some p → shown ≡ name → Has p.segments s → base ≡ base_of s → size ≡ length s.bytes → IsSegmentOf ps shown base size
-segment_of ps name shown p s base size named is has of_base of_size = record {
-  partition = p;
-  named = subst (λ (n : PartitionName). partition_named n ps ≡ Some p) (sym is) named;
-  segment = s;
-  has = has;
-  of_base = of_base;
-  of_size = of_size;
-}

@@ -8,12 +8,12 @@ use Rattle.eos_sought.specs.declared.partition.Placed.{Placed}
 use Rattle.eos_sought.specs.declared.finding.Find.{Find}
 use Rattle.eos_sought.specs.declared.sought.Sought.{Sought}
 use Rattle.eos_sought.specs.Finds.{all_of}
-use Rattle.eos_story.specs.Answers.{StandInOrder, IsRecordRow, AreShown, AnswersEach}
+use Rattle.eos_story.specs.Answers.{StandInOrder, IsRecordRow, AreShown, AreFirstShown, AnswersEach}
 use Rattle.eos_story.specs.declared.row.Row.{Row}
 use Rattle.eos_story.specs.declared.row.Row.TheVariants as rows
 use Rattle.eos_story.specs.declared.scene.Scene.{Scene}
-use Rattle.eos_story.specs.Questions.{Question, Records, Latest}
-use Rattle.eos_story.specs.Rows.{AreTrue}
+use Rattle.eos_story.specs.Questions.{Question, Latest}
+use Rattle.eos_story.specs.steps.Seen.{AreTrue, AnswersOf}
 use Rattle.eos_story.specs.steps.Telling.{Tells, TellsEach, IsNext, IsRecordBehind, IsRestTold}
 use Rattle.eos_story.proofs.RowsGrown.{has_last, has_grown, in_order_grown, in_order_more, each_grown, each_of_both}
 
@@ -30,16 +30,16 @@ pub told_nothing : (scene : Scene) (rows : List Row) (P : List Row → Type 0) �
 told_nothing scene rows P told = record { added = []; grown = sym (append-nil rows); are = λ is. is; told = told }
 
 pub nothing : (scene : Scene) (rows : List Row) → TellsEach scene rows rows []
-nothing scene rows = record { added = []; grown = sym (append-nil rows); are = λ is. is; answers = tt }
+nothing scene rows = record { added = []; grown = sym (append-nil rows); are = λ is. is; answers = λ ps seen. tt }
 
 -- the same rows, told otherwise
 pub told_as : {scene : Scene} {a b : List Row} {P : List Row → Type 0} (Q : List Row → Type 0) → (P b → Q b) → Tells scene a b P → Tells scene a b Q
 told_as {scene} {a} {b} {P} Q f h = record { added = h.added; grown = h.grown; are = h.are; told = f h.told }
 
-pub told_each : {scene : Scene} {a b : List Row} {P : List Row → Type 0} (qs : List Question) → (P b → AnswersEach scene.partitions.now scene.logs.now b qs) → Tells scene a b P → TellsEach scene a b qs
+pub told_each : {scene : Scene} {a b : List Row} {P : List Row → Type 0} (qs : List Question) → (P b → AnswersOf scene b qs) → Tells scene a b P → TellsEach scene a b qs
 told_each {scene} {a} {b} {P} qs f h = record { added = h.added; grown = h.grown; are = h.are; answers = f h.told }
 
-pub each_told : {scene : Scene} {a b : List Row} {qs : List Question} (P : List Row → Type 0) → (AnswersEach scene.partitions.now scene.logs.now b qs → P b) → TellsEach scene a b qs → Tells scene a b P
+pub each_told : {scene : Scene} {a b : List Row} {qs : List Question} (P : List Row → Type 0) → (AnswersOf scene b qs → P b) → TellsEach scene a b qs → Tells scene a b P
 each_told {scene} {a} {b} {qs} P f h = record { added = h.added; grown = h.grown; are = h.are; told = f h.answers }
 
 pub grown_twice : (a b c x y : List Row) → b ≡ a ++ x → c ≡ b ++ y → c ≡ a ++ (x ++ y)
@@ -56,13 +56,12 @@ told_both {scene} {a} {b} {c} {P} {Q} grows h k = record {
 
 pub then : {scene : Scene} {a b c : List Row} {qs rs : List Question} → TellsEach scene a b qs → TellsEach scene b c rs → TellsEach scene a c (qs ++ rs)
 then {scene} {a} {b} {c} {qs} {rs} h k =
-    let ps = scene.partitions.now in
     let logs = scene.logs.now in
     record {
       added = h.added ++ k.added;
       grown = grown_twice a b c h.added k.added h.grown k.grown;
       are = λ is. k.are (h.are is);
-      answers = each_of_both ps logs c qs rs (subst (λ (told : List Row). AnswersEach ps logs told qs) (sym k.grown) (each_grown ps logs b k.added qs h.answers)) k.answers;
+      answers = λ ps seen. each_of_both ps logs c qs rs (subst (λ (told : List Row). AnswersEach ps logs told qs) (sym k.grown) (each_grown ps logs b k.added qs (h.answers ps seen))) (k.answers ps seen);
     }
 
 -- ---- rows in order
@@ -92,9 +91,9 @@ record_behind {scene} {before} {after} sought find row shown kept spot are is e 
 }
 
 -- the rows of the first records that are sought, or of the last, and what is said of the rest
-pub records_told : {scene : Scene} {a b c : List Row} (sought : Sought) (most count : ℕ) (shown all : List Find) → all ≡ all_of sought scene.logs.now → count ≡ length all → Tells scene a b (StandInOrder (IsRecordRow sought) shown) → Tells scene b c (IsRestTold sought most count)
-    → shown ≡ take most all → TellsEach scene a c (Records sought most ∷ [])
-records_told {scene} {a} {b} {c} sought most count shown all is number h k first =
+pub first_shown : {scene : Scene} {a b c : List Row} (sought : Sought) (most count : ℕ) (shown all : List Find) → all ≡ all_of sought scene.logs.now → count ≡ length all → Tells scene a b (StandInOrder (IsRecordRow sought) shown) → Tells scene b c (IsRestTold sought most count)
+    → shown ≡ take most all → Tells scene a c (AreFirstShown scene.logs.now sought most)
+first_shown {scene} {a} {b} {c} sought most count shown all is number h k first =
     let R = IsRecordRow sought in
     let kept : StandInOrder R shown c = subst (StandInOrder R shown) (sym k.grown) (in_order_grown R shown b k.added h.told) in
     let these : List Find = take most (all_of sought scene.logs.now) in
@@ -104,14 +103,11 @@ records_told {scene} {a} {b} {c} sought most count shown all is number h k first
       added = h.added ++ k.added;
       grown = grown_twice a b c h.added k.added h.grown k.grown;
       are = λ old. k.are (h.are old);
-      answers = (
-        record {
-          in_order = subst (λ (fs : List Find). StandInOrder R fs c) e kept;
-          more = λ lt. subst (λ m. Has c (rows.MoreRecords most m sought)) n (k.told.more (subst (λ m. most < m) (sym n) lt));
-          none = λ z. k.told.none (n ∙ z);
-        },
-        tt,
-      );
+      told = record {
+        in_order = subst (λ (fs : List Find). StandInOrder R fs c) e kept;
+        more = λ lt. subst (λ m. Has c (rows.MoreRecords most m sought)) n (k.told.more (subst (λ m. most < m) (sym n) lt));
+        none = λ z. k.told.none (n ∙ z);
+      };
     }
 
 -- one row more of those that are sought
@@ -149,7 +145,7 @@ latest_told {scene} {a} {b} {c} sought most count shown n h k last =
       added = h.added ++ k.added;
       grown = grown_twice a b c h.added k.added h.grown k.grown;
       are = λ old. k.are (h.are old);
-      answers = (
+      answers = λ ps seen. (
         record {
           in_order = subst (λ (fs : List Find). StandInOrder (IsRecordRow sought) fs c) last k.told;
           more = λ lt. subst (λ m. Has c (rows.MoreRecords most m sought)) n (has _ (h.told.more (subst (λ m. most < m) (sym n) lt)));

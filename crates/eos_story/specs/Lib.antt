@@ -6,6 +6,7 @@ pub mod Names
 pub mod PlaceOfFault
 pub mod Questions
 pub mod Rows
+pub mod SceneOf
 pub mod Wholeness
 pub mod Places
 pub mod GroupCommits

@@ -1,5 +1,5 @@
 -- What a row of a story says of the logs. Each row names what it is the place of, and so can be looked up.
-use Rattle.std.specs.Prelude.{◌≡◌, ℕ, ℤ, List, Option, Some, None, All, length, slice_get}
+use Rattle.std.specs.Prelude.{◌≡◌, ℕ, ℤ, List, Option, Some, None, length, slice_get}
 use Rattle.eos_base.specs.declared.partition_name.PartitionName.{PartitionName}
 use Rattle.eos_base.specs.Members.{Has}
 use Rattle.eos_batch.specs.declared.record.Header.{Header}
@@ -18,7 +18,6 @@ use Rattle.eos_sought.specs.declared.sought.Sought.{Sought}
 use Rattle.eos_sought.specs.Finds.{all_of}
 use Rattle.eos_story.specs.declared.row.Row.{Row}
 use Rattle.eos_story.specs.declared.row.Row.TheVariants as rows
-use Rattle.eos_story.specs.declared.scene.Scene.{Scene}
 use Rattle.eos_story.specs.declared.headers.HeaderName.{HeaderName}
 use Rattle.eos_story.specs.HeaderBytes.{headers_at}
 use Rattle.eos_story.specs.HeaderNames.{key_of}
@@ -98,7 +97,3 @@ IsTrue ps logs (rows.Segment name base size) = IsSegmentOf ps name base size
 IsTrue ps logs (rows.MoreSegments name shown all) = AreSegmentsOf ps name all
 IsTrue ps logs (rows.End name end) = IsEndOf ps name end
 IsTrue ps logs (rows.Header place name values) = StandUnder ps place name values
-
--- each row says what is so
-abbrev pub AreTrue : Scene → List Row → Type 0
-AreTrue scene rows = All (IsTrue scene.partitions.now scene.logs.now) rows

@@ -9,6 +9,7 @@ ghost use Rattle.eos_story.specs.Answers.{StandInOrder, IsBatchRow, count_below}
 ghost use Rattle.eos_story.specs.declared.row.Row.TheVariants.{Batch as BatchRow, First as FirstRow};
 ghost use Rattle.eos_story.specs.Questions.{Around, Batches, FirstBatch};
 ghost use Rattle.eos_story.specs.steps.Batches.{AreFound, AreMoreTold};
+ghost use Rattle.eos_story.specs.steps.Seen.{OfAllSeen};
 ghost use Rattle.eos_story.specs.steps.Telling.{Tells, TellsEach, IsNext};
 
 use crate::copies::copy_name;
@@ -146,7 +147,7 @@ pub(crate) fn push_touches(
     producer: i64,
     offset: u64,
 ) -> Result<Option<Placed>, AllocError>
-    ensures { IfOk result (λ before. (found : List Batch) × AreBatchesOf scene.now.partitions.now name.now (Of producer) found
+    ensures { IfOk result (λ before. (found : List Batch) × OfAllSeen scene.now (λ ps. AreBatchesOf ps name.now (Of producer) found)
         × (before ≡ slice_get found (count_below offset found - 1)) × TellsEach scene.now rows.old.items rows.new.items (Around name.now (Of producer) offset ∷ [])) }
 {
     let wanted = Wanted::Of { producer };

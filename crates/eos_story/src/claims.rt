@@ -11,7 +11,7 @@ ghost use Rattle.eos_story.specs.steps.Telling.{Tells, TellsEach};
 
 use crate::batches::push_first;
 use crate::copies::copy_place;
-use crate::records::{count_of, push_find, push_records, push_rest};
+use crate::records::{count_of, push_find, push_rest, push_shown};
 use crate::row::Row;
 use crate::scene::Scene;
 use eos_base::PartitionName;
@@ -32,7 +32,7 @@ fn push_decision(
         return Ok(());
     };
     let epoch = marker.standing.head.epoch;
-    push_records(scene, rows, Sought::Deciding { producer, epoch }, 1)?;
+    push_shown(scene, rows, &Sought::Deciding { producer, epoch }, 1)?;
     Ok(())
 }
 

@@ -1,13 +1,15 @@
-//! Rows of a partition's end: where it was declared to end, and its segments.
+//! Rows of a partition's end: where it was declared to end, and its segments, by their folds.
 
-ghost use Rattle.std.specs.Prelude.{◌≡◌, ◌≢◌, ◌≤◌, ◌<◌, ◌-◌, ◌∷◌, [], OnOk, Some, All, length};
+ghost use Rattle.std.specs.Prelude.{◌≡◌, ◌≢◌, ◌≤◌, ◌<◌, ◌-◌, ◌∷◌, [], OnOk, All, length};
 ghost use Rattle.eos_base.specs.Members.{Has};
-ghost use Rattle.eos_fold.specs.Fronts.{base_of};
+ghost use Rattle.eos_sought.specs.Folded.{IsNamedBy};
 ghost use Rattle.eos_sought.specs.Partitions.{partition_named};
 ghost use Rattle.eos_sought.specs.declared.wanted.Wanted.TheVariants.{Holding};
-ghost use Rattle.eos_story.specs.Answers.{StandInOrder, IsFirstShown, IsSegmentRow, AreSegmentsAround, AreSegmentsShown, count_begun};
+ghost use Rattle.eos_story.specs.Answers.{StandInOrder, IsFirstShown, AreSegmentsShown};
 ghost use Rattle.eos_story.specs.declared.row.Row.TheVariants.{Segment as SegmentRow, MoreSegments, End as EndRow};
 ghost use Rattle.eos_story.specs.Questions.{Ends};
+ghost use Rattle.eos_story.specs.steps.Ends.{begin_of, folds_begun, IsFoldRow, AreFoldsAround};
+ghost use Rattle.eos_story.specs.steps.Seen.{OfAllSeen};
 ghost use Rattle.eos_story.specs.steps.Telling.{Tells, TellsEach, IsNext};
 
 use crate::batches::push_first;
@@ -16,44 +18,44 @@ use crate::row::{Row, add_row};
 use crate::scene::Scene;
 use crate::slices::around;
 use eos_base::PartitionName;
-use eos_evidence::{Partition, Segment};
-use eos_fold::begin_of;
-use eos_sought::{Wanted, partition_named};
+use eos_fold_file::FoldFile;
+use eos_sought::{Folded, Wanted, folded_named};
 use std::alloc::AllocError;
 
+/// Where the segment of a fold begins, which is its name.
+fn begin_of(fold: &FoldFile) -> u64
+    ensures { result ≡ begin_of fold.now }
+{
+    fold.base.unsigned_abs()
+}
+
 /// How many of these segments begin at an offset or before it.
-fn count_begun(segments: &[Segment], offset: u64) -> usize
-    ensures count { result ≡ count_begun offset segments.now }
-    ensures within { result ≤ length segments.now }
+fn count_begun(folds: &[FoldFile], offset: u64) -> usize
+    ensures count { result ≡ folds_begun offset folds.now }
+    ensures within { result ≤ length folds.now }
 {
     let mut count = 0usize;
-    for segment in segments {
-        if begin_of(segment) <= offset {
+    for fold in folds {
+        if begin_of(fold) <= offset {
             count += 1;
         }
     }
     count
 }
 
-fn size_of(segment: &Segment) -> u64
-    ensures { result ≡ length segment.now.bytes }
-{
-    segment.bytes.len() as u64
-}
-
 fn push_segment(
     scene: &Scene<'_>,
     rows: &mut Vec<Row>,
     name: &PartitionName,
-    partition: &Partition,
-    segment: &Segment,
+    partition: &Folded,
+    fold: &FoldFile,
 ) -> Result<(), AllocError>
-    requires named { partition_named name.now scene.now.partitions.now ≡ Some partition.now }
-    requires has { Has partition.now.segments segment.now }
-    ensures { OnOk result (Tells scene.now rows.old.items rows.new.items (IsNext rows.old.items (SegmentRow name.now (base_of segment.now) (length segment.now.bytes)))) }
+    requires named { OfAllSeen scene.now (λ ps. IsNamedBy ps name.now partition.now) }
+    requires has { Has partition.now.folds.items fold.now }
+    ensures { OnOk result (Tells scene.now rows.old.items rows.new.items (IsNext rows.old.items (SegmentRow name.now (begin_of fold.now) fold.now.bytes))) }
 {
-    let base = begin_of(segment);
-    let size = size_of(segment);
+    let base = begin_of(fold);
+    let size = fold.bytes;
     let partition = copy_name(name)?;
     add_row(
         scene,
@@ -72,15 +74,15 @@ fn push_each(
     scene: &Scene<'_>,
     rows: &mut Vec<Row>,
     name: &PartitionName,
-    partition: &Partition,
-    segments: &[Segment],
+    partition: &Folded,
+    folds: &[FoldFile],
 ) -> Result<(), AllocError>
-    requires named { partition_named name.now scene.now.partitions.now ≡ Some partition.now }
-    requires have { All (Has partition.now.segments) segments.now }
-    ensures { OnOk result (Tells scene.now rows.old.items rows.new.items (StandInOrder (IsSegmentRow name.now) segments.now)) }
+    requires named { OfAllSeen scene.now (λ ps. IsNamedBy ps name.now partition.now) }
+    requires have { All (Has partition.now.folds.items) folds.now }
+    ensures { OnOk result (Tells scene.now rows.old.items rows.new.items (StandInOrder (IsFoldRow name.now) folds.now)) }
 {
-    for segment in segments {
-        push_segment(scene, rows, name, partition, segment)?;
+    for fold in folds {
+        push_segment(scene, rows, name, partition, fold)?;
     }
     Ok(())
 }
@@ -90,14 +92,14 @@ fn push_more(
     scene: &Scene<'_>,
     rows: &mut Vec<Row>,
     name: &PartitionName,
-    partition: &Partition,
+    partition: &Folded,
     shown: usize,
 ) -> Result<(), AllocError>
-    requires { partition_named name.now scene.now.partitions.now ≡ Some partition.now }
-    ensures { OnOk result (Tells scene.now rows.old.items rows.new.items (λ told. shown < length partition.now.segments
-        → Has told (MoreSegments name.now shown (length partition.now.segments)))) }
+    requires { OfAllSeen scene.now (λ ps. IsNamedBy ps name.now partition.now) }
+    ensures { OnOk result (Tells scene.now rows.old.items rows.new.items (λ told. shown < length partition.now.folds.items
+        → Has told (MoreSegments name.now shown (length partition.now.folds.items)))) }
 {
-    let all = partition.segments.len();
+    let all = partition.folds.as_slice().len();
     if shown < all {
         let partition = copy_name(name)?;
         add_row(
@@ -119,15 +121,15 @@ fn push_segments(
     scene: &Scene<'_>,
     rows: &mut Vec<Row>,
     name: &PartitionName,
-    partition: &Partition,
+    partition: &Folded,
     offset: u64,
 ) -> Result<(), AllocError>
-    requires { partition_named name.now scene.now.partitions.now ≡ Some partition.now }
-    ensures { OnOk result (Tells scene.now rows.old.items rows.new.items (AreSegmentsAround name.now offset partition.now.segments)) }
+    requires { OfAllSeen scene.now (λ ps. IsNamedBy ps name.now partition.now) }
+    ensures { OnOk result (Tells scene.now rows.old.items rows.new.items (AreFoldsAround name.now offset partition.now.folds.items)) }
 {
-    let segments = partition.segments.as_slice();
-    let begun = count_begun(segments, offset);
-    let shown = around(segments, begun, 2, 1);
+    let folds = partition.folds.as_slice();
+    let begun = count_begun(folds, offset);
+    let shown = around(folds, begun, 2, 1);
     push_each(scene, rows, name, partition, shown)?;
     push_more(scene, rows, name, partition, shown.len())?;
     Ok(())
@@ -137,9 +139,9 @@ fn push_end(
     scene: &Scene<'_>,
     rows: &mut Vec<Row>,
     name: &PartitionName,
-    partition: &Partition,
+    partition: &Folded,
 ) -> Result<(), AllocError>
-    requires { partition_named name.now scene.now.partitions.now ≡ Some partition.now }
+    requires { OfAllSeen scene.now (λ ps. IsNamedBy ps name.now partition.now) }
     ensures { OnOk result (Tells scene.now rows.old.items rows.new.items (λ told. Has told (EndRow name.now partition.now.end.end))) }
 {
     let end = partition.end.end;
@@ -172,9 +174,9 @@ fn push_rest(
     name: &PartitionName,
     offset: u64,
 ) -> Result<(), AllocError>
-    ensures { OnOk result (Tells scene.now rows.old.items rows.new.items (AreSegmentsShown name.now offset (partition_named name.now scene.now.partitions.now))) }
+    ensures { OnOk result (Tells scene.now rows.old.items rows.new.items (λ told. OfAllSeen scene.now (λ ps. AreSegmentsShown name.now offset (partition_named name.now ps) told))) }
 {
-    match partition_named(scene.partitions, name) {
+    match folded_named(scene.partitions, name) {
         None => Ok(()),
         Some(partition) => {
             push_end(scene, rows, name, partition)?;

@@ -1,9 +1,14 @@
 //! Which rows a fault has, by its kind.
 
-ghost use Rattle.std.specs.Prelude.{◌≡◌, IfOk, OnOk, Some};
+ghost use Rattle.std.specs.Option.{option_copied};
+ghost use Rattle.std.specs.Prelude.{◌≡◌, IfOk, OnOk, Some, List, All};
+ghost use Rattle.eos_evidence.specs.declared.partition.Partition.{Partition as Log};
 ghost use Rattle.eos_story.specs.Questions.{of_log, marker_epoch, there, states_about, of_match};
-ghost use Rattle.eos_story.specs.Rows.{AreTrue};
+ghost use Rattle.eos_story.specs.PlaceOfFault.{place_of};
+ghost use Rattle.eos_story.specs.Rows.{IsTrue};
 ghost use Rattle.eos_story.specs.Wholeness.{IsWhole};
+ghost use Rattle.eos_story.specs.SceneOf.{IsSceneOf};
+ghost use Rattle.eos_story.specs.steps.Seen.{OfAllSeen};
 ghost use Rattle.eos_story.specs.steps.Telling.{Tells, TellsEach};
 
 use crate::batches::push_one;
@@ -110,7 +115,8 @@ fn match_rows(scene: &Scene<'_>, rows: &mut Vec<Row>, fault: &MatchFault) -> Res
 }
 
 fn push_rows(scene: &Scene<'_>, rows: &mut Vec<Row>, fault: &Fault) -> Result<(), AllocError>
-    ensures { OnOk result (Tells scene.now rows.old.items rows.new.items (IsWhole scene.now.apps.now scene.now.partitions.now scene.now.logs.now fault.now)) }
+    requires { option_copied scene.now.place ≡ place_of fault.now }
+    ensures { OnOk result (Tells scene.now rows.old.items rows.new.items (λ told. OfAllSeen scene.now (λ ps. IsWhole scene.now.apps.now ps scene.now.logs.now fault.now told))) }
 {
     match fault {
         Fault::Partition(fault) => {
@@ -137,8 +143,9 @@ fn push_rows(scene: &Scene<'_>, rows: &mut Vec<Row>, fault: &Fault) -> Result<()
 /// # Errors
 /// Only want of memory.
 pub fn rows_of(scene: &Scene<'_>, fault: &Fault) -> Result<Vec<Row>, AllocError>
-    ensures so { IfOk result (λ rows. AreTrue scene.now rows.items) }
-    ensures whole { IfOk result (λ rows. IsWhole scene.now.apps.now scene.now.partitions.now scene.now.logs.now fault.now rows.items) }
+    requires place { option_copied scene.now.place ≡ place_of fault.now }
+    ensures so { IfOk result (λ rows. (ps : List Log) → IsSceneOf ps scene.now → All (IsTrue ps scene.now.logs.now) rows.items) }
+    ensures whole { IfOk result (λ rows. (ps : List Log) → IsSceneOf ps scene.now → IsWhole scene.now.apps.now ps scene.now.logs.now fault.now rows.items) }
 {
     let mut rows = Vec::new(scene.alloc);
     push_rows(scene, &mut rows, fault)?;

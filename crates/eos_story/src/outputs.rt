@@ -1,8 +1,10 @@
 //! Which rows a fault of single records has, and one of an application's outputs.
 
 ghost use Rattle.std.specs.Prelude.{◌≡◌, ◌∷◌, [], IfOk, OnOk, slice_get};
+ghost use Rattle.std.specs.Option.{option_copied};
 ghost use Rattle.eos_sought.specs.Finds.{all_of};
 ghost use Rattle.eos_sought.specs.declared.sought.Sought.TheVariants.{At};
+ghost use Rattle.eos_story.specs.PlaceOfFault.{at_offset, place_in_lineage};
 ghost use Rattle.eos_story.specs.Questions.{Records, group_of as group_of_find, commits_of, of_group, of_kind, of_record, first_group, group_meant, others_past, commits_past, of_output, of_lineage};
 ghost use Rattle.eos_story.specs.steps.Telling.{TellsEach};
 ghost use Rattle.std.specs.Prelude.{Some};
@@ -64,6 +66,7 @@ fn kind_rows(
     place: Place,
     kind: VisibleFaultKind,
 ) -> Result<(), AllocError>
+    requires { option_copied scene.now.place ≡ Some place }
     ensures { OnOk result (TellsEach scene.now rows.old.items rows.new.items (of_kind scene.now.logs.now place kind)) }
 {
     match kind {
@@ -80,6 +83,7 @@ fn visible_rows(
     rows: &mut Vec<Row>,
     fault: &VisibleFault,
 ) -> Result<(), AllocError>
+    requires { option_copied scene.now.place ≡ at_offset fault.now.partition.topic fault.now.partition.partition fault.now.offset }
     ensures { OnOk result (TellsEach scene.now rows.old.items rows.new.items (of_record scene.now.logs.now fault.now)) }
 {
     let partition = copy_name(&fault.partition)?;
@@ -211,6 +215,7 @@ pub(crate) fn lineage_rows(
     rows: &mut Vec<Row>,
     fault: &LineageFault,
 ) -> Result<(), AllocError>
+    requires { option_copied scene.now.place ≡ place_in_lineage fault.now }
     ensures { OnOk result (TellsEach scene.now rows.old.items rows.new.items (of_lineage scene.now.apps.now scene.now.logs.now fault.now)) }
 {
     match fault {

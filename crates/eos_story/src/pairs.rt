@@ -3,6 +3,7 @@
 ghost use Rattle.std.specs.Prelude.{◌≡◌, OnOk};
 ghost use Rattle.eos_story.specs.Questions.{ending, ending_epoch, between, of_open};
 ghost use Rattle.eos_story.specs.Wholeness.{IsPairTold, IsOpenTold, IsPartitionTold, last_end};
+ghost use Rattle.eos_story.specs.steps.Seen.{OfAllSeen};
 ghost use Rattle.eos_story.specs.steps.Telling.{Tells, TellsEach};
 ghost use Rattle.eos_sought.specs.declared.wanted.Wanted.TheVariants.{Ending};
 ghost use Rattle.eos_sought.specs.declared.partition.Placed.{Placed as Batch};
@@ -78,7 +79,7 @@ fn pair_rows(
     producer: i64,
     offset: u64,
 ) -> Result<(), AllocError>
-    ensures { OnOk result (Tells scene.now rows.old.items rows.new.items (IsPairTold scene.now.partitions.now scene.now.logs.now name.now producer offset)) }
+    ensures { OnOk result (Tells scene.now rows.old.items rows.new.items (λ told. OfAllSeen scene.now (λ ps. IsPairTold ps scene.now.logs.now name.now producer offset told))) }
 {
     let before = push_touches(scene, rows, name, producer, offset)?;
     push_ending(scene, rows, producer, before)?;
@@ -89,7 +90,7 @@ fn pair_rows(
 
 /// The offset of the last end marker of a producer id in a partition; 0 where there is none.
 fn last_end(scene: &Scene<'_>, name: &PartitionName, producer: i64) -> Result<u64, AllocError>
-    ensures { IfOk result (λ end. (markers : List Batch) × AreBatchesOf scene.now.partitions.now name.now (Ending producer 0) markers × (end ≡ last_end markers)) }
+    ensures { IfOk result (λ end. (markers : List Batch) × OfAllSeen scene.now (λ ps. AreBatchesOf ps name.now (Ending producer 0) markers) × (end ≡ last_end markers)) }
 {
     let wanted = Wanted::Ending { producer, from: 0 };
     let markers = batches_of(scene.alloc, scene.partitions, name, wanted)?;
@@ -125,7 +126,7 @@ fn open_rows(
     name: &PartitionName,
     producer: i64,
 ) -> Result<(), AllocError>
-    ensures { OnOk result (Tells scene.now rows.old.items rows.new.items (IsOpenTold scene.now.partitions.now scene.now.logs.now name.now producer)) }
+    ensures { OnOk result (Tells scene.now rows.old.items rows.new.items (λ told. OfAllSeen scene.now (λ ps. IsOpenTold ps scene.now.logs.now name.now producer told))) }
 {
     let from = last_end(scene, name, producer)?;
     let first = push_first(scene, rows, name, Wanted::Open { producer, from })?;
@@ -139,8 +140,8 @@ pub(crate) fn partition_rows(
     rows: &mut Vec<Row>,
     fault: &PartitionFault,
 ) -> Result<(), AllocError>
-    ensures { OnOk result (Tells scene.now rows.old.items rows.new.items (λ told. IsPartitionTold scene.now.partitions.now scene.now.logs.now
-        (record { topic = fault.now.topic; partition = fault.now.partition }) fault.now.offset told fault.now.kind)) }
+    ensures { OnOk result (Tells scene.now rows.old.items rows.new.items (λ told. OfAllSeen scene.now (λ ps. IsPartitionTold ps scene.now.logs.now
+        (record { topic = fault.now.topic; partition = fault.now.partition }) fault.now.offset told fault.now.kind))) }
 {
     let name = PartitionName {
         topic: fault.topic.clone()?,

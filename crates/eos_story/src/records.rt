@@ -4,7 +4,7 @@ ghost use Rattle.std.specs.Prelude.{◌≡◌, ◌∷◌, [], IfOk, OnOk, All, l
 ghost use Rattle.eos_base.specs.Members.{Has};
 ghost use Rattle.eos_sought.specs.declared.wanted.Wanted.TheVariants.{Holding};
 ghost use Rattle.eos_sought.specs.Finds.{all_of};
-ghost use Rattle.eos_story.specs.Answers.{StandInOrder, IsRecordRow};
+ghost use Rattle.eos_story.specs.Answers.{StandInOrder, IsRecordRow, AreFirstShown};
 ghost use Rattle.eos_story.specs.Questions.{Records, Latest as LatestOf};
 ghost use Rattle.eos_story.specs.steps.Telling.{Tells, TellsEach, IsRecordBehind, IsRestTold};
 
@@ -102,6 +102,22 @@ fn push_finds(
 }
 
 /// Adds the first data records that are sought, so many at most, and how many more there are, or that there is none; and counts all.
+pub(crate) fn push_shown(
+    scene: &Scene<'_>,
+    rows: &mut Vec<Row>,
+    sought: &Sought,
+    most: u64,
+) -> Result<u64, AllocError>
+    ensures count { IfOk result (λ count. count ≡ length (all_of sought.now scene.now.logs.now)) }
+    ensures told { OnOk result (Tells scene.now rows.old.items rows.new.items (AreFirstShown scene.now.logs.now sought.now most)) }
+{
+    let finds = find_records(scene.alloc, scene.logs, sought, most)?;
+    push_finds(scene, rows, sought, finds.first.as_slice())?;
+    push_rest(scene, rows, sought, most, finds.count)?;
+    Ok(finds.count)
+}
+
+/// The same, which answers a question.
 pub(crate) fn push_counted(
     scene: &Scene<'_>,
     rows: &mut Vec<Row>,
@@ -111,10 +127,8 @@ pub(crate) fn push_counted(
     ensures count { IfOk result (λ count. count ≡ length (all_of sought.now scene.now.logs.now)) }
     ensures told { OnOk result (TellsEach scene.now rows.old.items rows.new.items (Records sought.now most ∷ [])) }
 {
-    let finds = find_records(scene.alloc, scene.logs, sought, most)?;
-    push_finds(scene, rows, sought, finds.first.as_slice())?;
-    push_rest(scene, rows, sought, most, finds.count)?;
-    Ok(finds.count)
+    let count = push_shown(scene, rows, sought, most)?;
+    Ok(count)
 }
 
 /// The same, of what is sought for this alone, without the count.

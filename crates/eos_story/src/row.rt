@@ -3,7 +3,8 @@
 ghost use Rattle.std.specs.Option.{option_copied};
 ghost use Rattle.std.specs.Prelude.{◌≡◌, OnOk};
 ghost use Rattle.eos_story.specs.Names.{name_in};
-ghost use Rattle.eos_story.specs.Rows.{IsTrue, AreTrue};
+ghost use Rattle.eos_story.specs.Rows.{IsTrue};
+ghost use Rattle.eos_story.specs.steps.Seen.{AreTrue, OfAllSeen};
 ghost use Rattle.eos_story.specs.steps.Telling.{IsNext};
 
 use crate::headers::HeaderName;
@@ -102,7 +103,7 @@ pub fn name_in(row: &Row) -> Option<&PartitionName>
 
 /// Puts a row at the end that says what is so.
 pub(crate) fn add_row(scene: &Scene<'_>, rows: &mut Vec<Row>, row: Row) -> Result<(), AllocError>
-    requires { IsTrue scene.now.partitions.now scene.now.logs.now row }
+    requires { OfAllSeen scene.now (λ ps. IsTrue ps scene.now.logs.now row) }
     ensures are { AreTrue scene.now rows.old.items → OnOk result (AreTrue scene.now rows.new.items) }
     ensures next { OnOk result (IsNext rows.old.items row rows.new.items) }
 {

@@ -6,10 +6,11 @@ use Rattle.eos_story.specs.declared.batches.Found.{Found}
 use Rattle.eos_story.specs.declared.row.Row.{Row}
 use Rattle.eos_story.specs.declared.row.Row.TheVariants as rows
 use Rattle.eos_story.specs.declared.scene.Scene.{Scene}
+use Rattle.eos_story.specs.steps.Seen.{OfAllSeen}
 
 -- the batches are those that are wanted
 abbrev pub AreFound : Scene → Found → Type 0
-AreFound scene found = AreBatchesOf scene.partitions.now found.name.now found.wanted found.batches.now
+AreFound scene found = OfAllSeen scene (λ ps. AreBatchesOf ps found.name.now found.wanted found.batches.now)
 
 -- how many there are, where there are more
 abbrev pub AreMoreTold : Found → ℕ → List Row → Type 0

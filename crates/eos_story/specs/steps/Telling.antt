@@ -4,12 +4,11 @@ use Rattle.eos_base.specs.Members.{Has}
 use Rattle.eos_sought.specs.declared.partition.Placed.{Placed}
 use Rattle.eos_sought.specs.declared.finding.Find.{Find}
 use Rattle.eos_sought.specs.declared.sought.Sought.{Sought}
-use Rattle.eos_story.specs.Answers.{AnswersEach}
 use Rattle.eos_story.specs.declared.row.Row.{Row}
 use Rattle.eos_story.specs.declared.row.Row.TheVariants as rows
 use Rattle.eos_story.specs.declared.scene.Scene.{Scene}
 use Rattle.eos_story.specs.Questions.{Question}
-use Rattle.eos_story.specs.Rows.{AreTrue}
+use Rattle.eos_story.specs.steps.Seen.{AreTrue, AnswersOf}
 
 -- the rows grew at their end, what was so is so, and this is told
 pub record Tells (scene : Scene) (before after : List Row) (IsTold : List Row → Type 0) : Type 0 where
@@ -23,7 +22,7 @@ pub record TellsEach (scene : Scene) (before after : List Row) (questions : List
   pub added : List Row
   pub grown : after ≡ before ++ added
   pub are : AreTrue scene before → AreTrue scene after
-  pub answers : AnswersEach scene.partitions.now scene.logs.now after questions
+  pub answers : AnswersOf scene after questions
 
 -- one row more
 abbrev pub IsNext : List Row → Row → List Row → Type 0

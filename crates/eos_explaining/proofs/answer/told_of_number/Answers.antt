@@ -2,8 +2,9 @@ use Rattle.std.proofs.Common.{◌≡◌, ◌-◌, ◌∙◌, List, Some, length,
 use Rattle.std.proofs.lemmas.Option.{slice_get_read}
 use Rattle.eos_source.specs.Said.{known_by}
 use Rattle.eos_verdict.specs.declared.verdict.Verdict.{Verdict}
-use Rattle.eos_evidence.specs.declared.partition.Partition.{Partition}
-use Rattle.eos_explaining.specs.Explaining.{AreSeen}
+use Rattle.eos_fold.specs.Parts.{PartLog}
+use Rattle.eos_sought.specs.declared.folded.Folded.{Folded}
+use Rattle.eos_explaining.specs.steps.Seen.{AreSeenBy}
 use Rattle.eos_explaining.specs.steps.Again.{ReadsMore}
 use Rattle.eos_explaining.proofs.Answered.{one_held, held_is, story_by}
 use Rattle.eos_explaining.proofs.NamedFaults.{named_at}
@@ -35,5 +36,6 @@ returns-clause-told g c =
     let v = c.index-told-0.result in
     let many : length told ≡ 1 = ap length c.as_slice-told.ensures.value ∙ one_held known shape c.args.judged number found f c.requires.first c.requires.inside in
     let at : slice_get found.told.items 0 ≡ Some v = subst (λ (vs : List Verdict). slice_get vs 0 ≡ Some v) c.as_slice-told.ensures.value (slice_get_read told (length told) 0 v refl (omega (arith, many)) c.index-told-0.is) in
-    story_by known shape c.args.judged number found c.seen_logs.new.read.items c.story_of.new.read.items (record { folder = c.args.asked.now.folder; counts = c.as_str.result; notes = c.as_slice.result; logs = c.as_slice-2.result }) v _ f c.requires.first at c.as_slice.ensures.value c.as_str.ensures.value (subst (λ (ps : List Partition). ReadsMore known shape.partitions ps c.seen_logs.new.read.items) c.new-read.ensures.items c.in_ok-parts.ensures.more) c.in_ok-story.ensures.more
-    (λ e logs is spec has of kept. subst (AreSeen e logs) (sym c.as_slice-2.ensures.value) (c.in_ok-parts.ensures.seen e logs is spec has of (c.parts_of.ensures ∙ kept))) c.in_ok-story.ensures.told
+    story_by known shape c.args.judged number found c.story_of.new.read.items (record { folder = c.args.asked.now.folder; counts = c.as_str.result; notes = c.as_slice.result; logs = c.as_slice-2.result }) v _ f c.requires.first at c.as_slice.ensures.value c.as_str.ensures.value
+    (subst (λ (fs : List Folded). ReadsMore known shape.partitions fs c.story_of.new.read.items) c.new-read.ensures.items c.in_ok-story.ensures.more)
+    (subst (λ (ps : List PartLog). AreSeenBy known shape ps c.as_slice-2.result.now) c.parts_of.ensures (subst (AreSeenBy known shape c.parts_of.result.items) (sym c.as_slice-2.ensures.value) c.in_ok-parts.ensures.seen)) c.in_ok-story.ensures.told

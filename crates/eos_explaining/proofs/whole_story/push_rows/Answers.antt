@@ -8,11 +8,12 @@ use Rattle.eos_explaining.proofs.whole_story.push_rows.Goals as goal
 
 pub returns : goal.returns
 unfolding rows_text
-returns c =
-    let all = lines_of_story c.args.partitions.now c.args.story.now in
-    let told : map string_bytes c.as_slice.result.now ≡ all = ap (map string_bytes) c.as_slice.ensures.value ∙ c.in_ok-lines.ensures in
+returns c = λ time_of same.
+    let all = lines_of_story time_of c.args.story.now in
+    let lines_are = c.in_ok-lines.ensures time_of same in
+    let told : map string_bytes c.as_slice.result.now ≡ all = ap (map string_bytes) c.as_slice.ensures.value ∙ lines_are in
     let first : map string_bytes c.shown_lines.result.now ≡ take 22 all = ap (map string_bytes) c.shown_lines.ensures ∙ (front_of_all string_bytes 22 c.as_slice.result.now ∙ ap (take 22) told) in
     let lines : Adds _ _ (joined (take 22 all)) = rw first at c.in_ok-push_joined.ensures in
-    let many : c.len.result ≡ length all = omega (arith, c.len.ensures, c.in_ok-lines.lines.ok.0, as_many string_bytes _ all c.in_ok-lines.ensures) in
+    let many : c.len.result ≡ length all = omega (arith, c.len.ensures, c.in_ok-lines.lines.ok.0, as_many string_bytes _ all lines_are) in
     let rest : Adds _ _ (rest_text 22 (length all)) = rw many at c.in_ok-push_rest.ensures in
     then lines rest

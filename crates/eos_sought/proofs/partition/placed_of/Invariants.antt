@@ -1,6 +1,7 @@
-use Rattle.std.proofs.Common.{take}
-use Rattle.eos_sought.specs.Partitions.{ArePlacedIn}
+use Rattle.std.proofs.Common.{◌≡◌, ◌++◌, drop}
+use Rattle.eos_sought.specs.steps.Placing.{wanted_of}
 use Rattle.eos_sought.proofs.partition.placed_of.Given as goal
 
-abbrev pub invariant-loop-segment : goal.invariant-loop-segment
-invariant-loop-segment l = ArePlacedIn (take l.segment-index l.segments) l.wanted l.all.items
+-- those found, and those that are left
+abbrev pub invariant-loop-fold : goal.invariant-loop-fold
+invariant-loop-fold l = l.all.items ++ wanted_of (drop l.fold-index l.folds) l.wanted ≡ wanted_of l.folds l.wanted

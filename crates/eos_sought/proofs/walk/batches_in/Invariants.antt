@@ -1,13 +1,9 @@
-use Rattle.std.proofs.Common.{◌≤◌, ◌-◌, length}
-use Rattle.eos_fold.specs.Fronts.{base_of}
-use Rattle.eos_sought.specs.steps.Walks.{HasWalked}
+use Rattle.std.proofs.Common.{◌≡◌, ◌++◌, drop}
+use Rattle.std.specs.List.{filter}
+use Rattle.eos_sought.specs.Folded.{standings, wanted_in}
+use Rattle.eos_sought.specs.Wanted.{is_wanted}
 use Rattle.eos_sought.proofs.walk.batches_in.Given as goal
 
-abbrev pub invariant-loop-at : goal.invariant-loop-at
-invariant-loop-at l = record {
-  within : l.at ≤ length l.fn.segment.bytes;
-  walked : HasWalked l.fn.segment.bytes (base_of l.fn.segment) l.fn.wanted l.at l.next l.found.items;
-}
-
-abbrev pub decreases-loop-at : goal.decreases-loop-at
-decreases-loop-at l = length l.fn.segment.bytes - l.at
+-- those found, and those that are left
+abbrev pub invariant-loop-head : goal.invariant-loop-head
+invariant-loop-head l = l.found.items ++ filter (λ s. is_wanted l.fn.wanted s.head) (standings l.byte l.next (drop l.head-index l.heads)) ≡ wanted_in l.fn.fold l.fn.wanted

@@ -1,6 +1,6 @@
 use Rattle.std.proofs.Common.{arith}
 use Rattle.eos_fold.specs.Fronts.{base_of}
-use Rattle.eos_sought.proofs.BatchWalks.{said_end, said_batch}
+use Rattle.eos_source_check.proofs.TimedWalks.{said_end, said_batch}
 use Rattle.eos_source_check.proofs.TimedWalks.{begins, goes_further, ends_whole, ends_before}
 use Rattle.eos_source_check.proofs.rising.times_in.Goals as goal
 

@@ -4,6 +4,7 @@ use Rattle.eos_sought.specs.declared.partition.Placed.{Placed}
 use Rattle.eos_sought.specs.declared.wanted.Wanted.TheVariants.{Of}
 use Rattle.eos_sought.specs.Partitions.{AreBatchesOf}
 use Rattle.eos_story.specs.Answers.{around}
+use Rattle.eos_story.specs.steps.Seen.{OfAllSeen}
 use Rattle.eos_story.proofs.BatchesTold.{all_around, around_told}
 use Rattle.eos_story.proofs.batches.push_touches.Goals as goal
 
@@ -19,6 +20,6 @@ returns c =
     let name = c.args.name.now in
     let wanted = Of c.args.producer in
     let found : List Placed = c.as_slice-batches.result.now in
-    let are = subst (λ (xs : List Placed). AreBatchesOf c.args.scene.now.partitions.now name wanted xs) (sym c.as_slice-batches.ensures.value) batches in
+    let are : OfAllSeen c.args.scene.now (λ ps. AreBatchesOf ps name wanted found) = λ ps seen. subst (λ (xs : List Placed). AreBatchesOf ps name wanted xs) (sym c.as_slice-batches.ensures.value) (batches ps seen.folded) in
     let shown : c.around-shown.result.now ≡ around c.args.offset found = c.around-shown.ensures ∙ ap (λ n. drop (n - 2) (take (n + 3) found)) c.count_below-at.ensures.count in
     (found, are, c.batch_before.ensures ∙ ap (λ n. slice_get found (n - 1)) c.count_below-at.ensures.count, around_told name wanted c.args.offset found c.around-shown.result.now are told shown more)

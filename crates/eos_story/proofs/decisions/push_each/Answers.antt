@@ -2,9 +2,13 @@ use Rattle.std.proofs.Common.{List, map, take, ◌∙◌, ap, subst}
 use Rattle.std.proofs.lemmas.List.{take_all, take_min}
 use Rattle.eos_base.specs.declared.partition_name.PartitionName.{PartitionName}
 use Rattle.eos_story.proofs.BatchesTold.{first_more}
+use Rattle.eos_story.proofs.RowsTold.{nothing}
 use Rattle.eos_story.specs.Questions.{FirstBatch}
 use Rattle.eos_story.specs.steps.Telling.{TellsEach}
 use Rattle.eos_story.proofs.decisions.push_each.Goals as goal
+
+pub loop-name-init : goal.loop-name-init
+loop-name-init c = nothing c.args.scene.now c.args.rows.now.items
 
 pub loop-name-preserved : goal.loop-name-preserved
 loop-name-preserved c = first_more c.args.wanted (take c.min.result c.args.names.now) c.loop-name.name-index c.name-item.result c.loop-name.invariant c.in_ok-push_first.ensures c.loop-name-test.true c.name-item.is

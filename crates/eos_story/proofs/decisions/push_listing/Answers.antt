@@ -20,6 +20,17 @@ push_listed-requires c =
     let names = ap length (c.as_slice.ensures.value ∙ of_found) in
     simp to_z-of_z (one_listed logs (Deciding producer epoch) 0 (length c.as_slice.result.now) (decision producer epoch logs) refl names)
 
+pub push_listed-requires-2 : goal.push_listed-requires-2
+push_listed-requires-2 c =
+    let p = c.ranges.producer in
+    let q = c.ranges.epoch in
+    let of_found = simp to_z-of_z at c.in_ok-names.ensures in
+    let producer = c.args.producer in
+    let epoch = c.args.epoch in
+    let logs = c.args.scene.now.logs.now in
+    let names = ap length (c.as_slice-2.ensures.value ∙ of_found) in
+    simp to_z-of_z (one_listed logs (Deciding producer epoch) 0 (length c.as_slice-2.result.now) (decision producer epoch logs) refl names)
+
 pub returns : goal.returns
 returns c =
     let p = c.ranges.producer in

@@ -1,0 +1,121 @@
+-- The times of rows, by partitions that were read once more for them.
+use Rattle.std.specs.Prelude.{◌≡◌, ⊤, ℕ, ℤ, List, [], ◌∷◌, ◌++◌, map, take, Bool, false, Option, Some, None, slice_get, if◌then◌else◌}
+use Rattle.eos_base.specs.declared.partition_name.PartitionName.{PartitionName}
+use Rattle.eos_evidence.specs.declared.partition.Partition.{Partition}
+use Rattle.eos_evidence.specs.Evidence.{EvidenceParts, IsEvidence}
+use Rattle.eos_sought.specs.Partitions.{is_named}
+use Rattle.eos_sought.specs.Times.{time_in}
+use Rattle.eos_sought.specs.declared.finding.Find.{Find}
+use Rattle.eos_sought.specs.declared.partition.Placed.{Placed}
+use Rattle.eos_source.specs.Said.{Known}
+use Rattle.eos_source_check.specs.Again.{IsNamedAgain}
+use Rattle.eos_story.specs.declared.row.Row.{Row}
+use Rattle.eos_story.specs.declared.row.Row.TheVariants as rows
+use Rattle.eos_explaining.specs.Folders.{AreRead, HasThem}
+use Rattle.eos_explaining.specs.Told.{row_time}
+
+-- ---- one row
+
+abbrev pub name_if : PartitionName → Option Placed → Option PartitionName
+name_if name None = None
+name_if name (Some p) = Some name
+
+-- the partition that has the time of a row, where it has one
+abbrev pub timed_in : Row → Option PartitionName
+timed_in (rows.Record sought find spot) = name_if find.partition spot
+timed_in (rows.NoRecord sought) = None
+timed_in (rows.MoreRecords shown all sought) = None
+timed_in (rows.Batch name wanted placed) = Some name
+timed_in (rows.First name wanted placed) = name_if name placed
+timed_in (rows.MoreBatches name wanted shown all) = None
+timed_in (rows.MorePartitions shown all sought) = None
+timed_in (rows.Segment name base size) = None
+timed_in (rows.MoreSegments name shown all) = None
+timed_in (rows.End name end) = None
+timed_in (rows.Header place name values) = None
+
+abbrev pub first_time_in : Option Partition → Option Placed → Option ℤ
+first_time_in partition None = None
+first_time_in partition (Some p) = time_in partition p p.standing.head.offset
+
+abbrev pub record_time_in : Option Partition → Find → Option Placed → Option ℤ
+record_time_in partition find None = None
+record_time_in partition find (Some p) = time_in partition p find.item.offset
+
+-- the time of a row that is looked up in this partition
+abbrev pub row_time_in : Option Partition → Row → Option ℤ
+row_time_in partition (rows.Record sought find spot) = record_time_in partition find spot
+row_time_in partition (rows.NoRecord sought) = None
+row_time_in partition (rows.MoreRecords shown all sought) = None
+row_time_in partition (rows.Batch name wanted placed) = first_time_in partition (Some placed)
+row_time_in partition (rows.First name wanted placed) = first_time_in partition placed
+row_time_in partition (rows.MoreBatches name wanted shown all) = None
+row_time_in partition (rows.MorePartitions shown all sought) = None
+row_time_in partition (rows.Segment name base size) = None
+row_time_in partition (rows.MoreSegments name shown all) = None
+row_time_in partition (rows.End name end) = None
+row_time_in partition (rows.Header place name values) = None
+
+-- ---- what is known of the times of rows
+
+abbrev pub is_named_if : Option PartitionName → Partition → Bool
+is_named_if None p = false
+is_named_if (Some name) p = is_named name p
+
+-- once this partition was read
+abbrev pub time_put : Partition → Row → Option (Option ℤ) → Option (Option ℤ)
+time_put p row was = if is_named_if (timed_in row) p then Some (row_time_in (Some p) row) else was
+
+abbrev pub first_known : List (Option (Option ℤ)) → Option (Option ℤ)
+first_known [] = None
+first_known (f ∷ fs) = f
+
+abbrev pub rest_known : List (Option (Option ℤ)) → List (Option (Option ℤ))
+rest_known [] = []
+rest_known (f ∷ fs) = fs
+
+-- of each row; of those past the list nothing was known
+abbrev pub times_put : Partition → List Row → List (Option (Option ℤ)) → List (Option (Option ℤ))
+times_put p [] found = []
+times_put p (row ∷ others) found = time_put p row (first_known found) ∷ times_put p others (rest_known found)
+
+-- so it is in each evidence of this spec that has these partitions
+abbrev pub IsTimeBy : EvidenceParts → List Partition → Row → Option ℤ → Type 0
+IsTimeBy shape also row time = (e : EvidenceParts) → IsEvidence shape → IsEvidence e → e.spec ≡ shape.spec → HasThem e also → time ≡ row_time e.partitions row
+
+abbrev pub IsTimeIf : EvidenceParts → List Partition → Row → Option (Option ℤ) → Type 0
+IsTimeIf shape also row None = ⊤
+IsTimeIf shape also row (Some time) = IsTimeBy shape also row time
+
+-- so it is with each time that is known
+abbrev pub AreTimesIf : EvidenceParts → List Partition → List Row → List (Option (Option ℤ)) → Type 0
+AreTimesIf shape also [] found = ⊤
+AreTimesIf shape also (row ∷ others) [] = ⊤
+AreTimesIf shape also (row ∷ others) (f ∷ fs) = IsTimeIf shape also row f × AreTimesIf shape also others fs
+
+-- ---- the code's steps
+
+-- the partition of this name, where one is named, as it was read
+abbrev pub IsReadFor : (ℕ → Known) → List Partition → Option PartitionName → Option Partition → Type 0
+IsReadFor known shapes None read = read ≡ None
+IsReadFor known shapes (Some name) read = IsNamedAgain known 0 shapes name read
+
+-- the time of the row of this number, and what is known then of all; further partitions were read for it
+pub record IsTimeMore (known : ℕ → Known) (shape : EvidenceParts) (all : List Row) (number : ℕ) (old new : List (Option (Option ℤ))) (time : Option ℤ) : Type 0 where
+  pub more : List Partition
+  pub read : AreRead known shape.partitions more
+  pub found : (before : List Partition) → AreTimesIf shape before all old → AreTimesIf shape (before ++ more) all new
+  pub is : (before : List Partition) (row : Row) → AreTimesIf shape before all old → slice_get all number ≡ Some row → IsTimeBy shape (before ++ more) row time
+
+-- the times of so many rows, and what is known of all
+pub record AreTimesSoFar (known : ℕ → Known) (shape : EvidenceParts) (all : List Row) (count : ℕ) (times : List (Option ℤ)) (found : List (Option (Option ℤ))) : Type 0 where
+  pub also : List Partition
+  pub read : AreRead known shape.partitions also
+  pub are : (e : EvidenceParts) → IsEvidence shape → IsEvidence e → e.spec ≡ shape.spec → HasThem e also → times ≡ map (row_time e.partitions) (take count all)
+  pub so : AreTimesIf shape also all found
+
+-- the times of these rows, in each evidence of this spec that has the partitions that were read for them
+pub record AreRowTimes (known : ℕ → Known) (shape : EvidenceParts) (all : List Row) (times : List (Option ℤ)) : Type 0 where
+  pub also : List Partition
+  pub read : AreRead known shape.partitions also
+  pub are : (e : EvidenceParts) → IsEvidence shape → IsEvidence e → e.spec ≡ shape.spec → HasThem e also → times ≡ map (row_time e.partitions) all
