@@ -12,6 +12,8 @@ use Rattle.eos_sought.specs.declared.wanted.Wanted.TheVariants.{Holding}
 use Rattle.eos_sought.specs.Folded.{AreFolded}
 use Rattle.eos_source.specs.Said.{Known}
 use Rattle.eos_source_check.specs.Again.{IsNamedAgain}
+use Rattle.eos_source_check.specs.Picked.{ArePickedNamed, ArePickedOfRead, ArePickedOf}
+use Rattle.eos_source_check.specs.declared.picks.Picked.{Picked}
 use Rattle.eos_story.proofs.Carried.{first_carried}
 use Rattle.eos_story.specs.HeaderBytes.{headers_in, headers_at}
 use Rattle.eos_story.specs.Rows.{IsFirst, AreHeadersOf}
@@ -23,7 +25,7 @@ use Rattle.eos_explaining.proofs.NamedAgain.{named_again, none_again, none_read,
 -- ---- of the batch that stands there
 
 -- no such partition is in the shape, nor in the evidence
-pub at_none : (known : ℕ → Known) (shape : EvidenceParts) (place : Place) (placed : Placed) (headers : List Header) → headers ≡ [] → IsNamedAgain known 0 shape.partitions place.partition None → AreHeadersAt known shape place placed headers
+at_none : (known : ℕ → Known) (shape : EvidenceParts) (place : Place) (placed : Placed) (headers : List Header) → headers ≡ [] → IsNamedAgain known 0 shape.partitions place.partition None → AreHeadersAt known shape place placed headers
 at_none known shape place placed headers none again = record {
   also = [];
   read_also = none_read known shape.partitions;
@@ -32,7 +34,7 @@ at_none known shape place placed headers none again = record {
       none ∙ ap (λ (o : Option Partition). headers_in (batch_in o placed) (place.offset - placed.standing.head.offset)) (sym absent);
 }
 
-pub at_some : (known : ℕ → Known) (shape : EvidenceParts) (place : Place) (placed : Placed) (headers : List Header) (p : Partition) (batch : Option Batch) → batch ≡ batch_in (Some p) placed → headers ≡ headers_in batch (place.offset - placed.standing.head.offset)
+at_some : (known : ℕ → Known) (shape : EvidenceParts) (place : Place) (placed : Placed) (headers : List Header) (p : Partition) (batch : Option Batch) → batch ≡ batch_in (Some p) placed → headers ≡ headers_in batch (place.offset - placed.standing.head.offset)
     → IsNamedAgain known 0 shape.partitions place.partition (Some p) → AreHeadersAt known shape place placed headers
 at_some known shape place placed headers p batch read are again = record {
   also = p ∷ [];
@@ -42,6 +44,22 @@ at_some known shape place placed headers p batch read are again = record {
       are ∙ (ap (λ (b : Option Batch). headers_in b (place.offset - placed.standing.head.offset)) read
       ∙ ap (λ (o : Option Partition). headers_in (batch_in o placed) (place.offset - placed.standing.head.offset)) (sym there));
 }
+
+pub at_unpicked : (known : ℕ → Known) (shape : EvidenceParts) (place : Place) (placed : Placed) (places : List (Option Placed)) (headers : List Header) → headers ≡ [] → ArePickedNamed known shape.partitions place.partition places None
+    → AreHeadersAt known shape place placed headers
+at_unpicked known shape place placed places headers none picked = by picked.read picked.again picked.are
+  where
+    by : (read : Option Partition) → IsNamedAgain known 0 shape.partitions place.partition read → ArePickedOfRead read places None → AreHeadersAt known shape place placed headers
+    by None again are = at_none known shape place placed headers none again
+    by (Some p) again are = absurd are
+
+pub at_picked : (known : ℕ → Known) (shape : EvidenceParts) (place : Place) (placed : Placed) (picked : Picked) (headers : List Header) (batch : Option Batch) → ((p : Partition) → ArePickedOf p (Some placed ∷ []) picked → batch ≡ batch_in (Some p) placed)
+    → headers ≡ headers_in batch (place.offset - placed.standing.head.offset) → ArePickedNamed known shape.partitions place.partition (Some placed ∷ []) (Some picked) → AreHeadersAt known shape place placed headers
+at_picked known shape place placed picked headers batch at are of = by of.read of.again of.are
+  where
+    by : (read : Option Partition) → IsNamedAgain known 0 shape.partitions place.partition read → ArePickedOfRead read (Some placed ∷ []) (Some picked) → AreHeadersAt known shape place placed headers
+    by None again is = absurd is
+    by (Some p) again is = at_some known shape place placed headers p batch (at p is) are again
 
 -- ---- of the batch that holds the record
 

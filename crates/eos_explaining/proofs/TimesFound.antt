@@ -1,9 +1,10 @@
 -- The times of rows by the partitions that have them.
 use Rattle.std.proofs.Common.{◌≡◌, ◌∙◌, ◌<◌, ◌≤◌, ◌+◌, ℕ, zero, suc, ℤ, List, [], ◌∷◌, ◌++◌, Option, Some, None, Bool, true, false, length, map, take, drop, get_or, slice_get, refl, sym, ap, subst, arith, append-nil, append_assoc}
-use Rattle.std.specs.Prelude.{if◌then◌else◌}
+use Rattle.std.specs.Prelude.{if◌then◌else◌, option_map}
 use Rattle.std.proofs.lemmas.List.{drop_more, drop_all, take_more, take_all, map-append}
-use Rattle.std.proofs.lemmas.Option.{slice_get-get_or}
+use Rattle.std.proofs.lemmas.Option.{slice_get-get_or, slice_get_read, slice_get-map}
 use Rattle.eos_base.specs.declared.partition_name.PartitionName.{PartitionName}
+use Rattle.eos_batch.specs.declared.batch.Batch.{Batch}
 use Rattle.eos_evidence.specs.declared.partition.Partition.{Partition}
 use Rattle.eos_evidence.specs.Evidence.{EvidenceParts}
 use Rattle.eos_sought.specs.Partitions.{is_named, partition_named}
@@ -12,11 +13,14 @@ use Rattle.eos_sought.specs.declared.finding.Find.{Find}
 use Rattle.eos_sought.specs.declared.partition.Placed.{Placed}
 use Rattle.eos_source.specs.Said.{Known}
 use Rattle.eos_source_check.specs.Again.{IsNamedAgain}
+use Rattle.eos_source_check.specs.Picked.{batch_at, ArePickedNamed, ArePickedOfRead, ArePickedOf}
+use Rattle.eos_source_check.specs.declared.picks.Picked.{Picked}
 use Rattle.eos_story.specs.declared.row.Row.{Row}
 use Rattle.eos_story.specs.declared.row.Row.TheVariants as rows
 use Rattle.eos_explaining.specs.Told.{first_time, record_time, row_time}
-use Rattle.eos_explaining.specs.steps.Times.{name_if, timed_in, first_time_in, record_time_in, row_time_in, is_named_if, time_put, first_known, rest_known, times_put, IsTimeBy, IsTimeIf, AreTimesIf, IsReadFor, IsTimeMore, AreTimesSoFar, AreRowTimes}
+use Rattle.eos_explaining.specs.steps.Times.{name_if, timed_in, first_time_in, record_time_in, row_time_in, at_record, at_first, spot_of, time_at, time_by, is_own, is_timed_in, place_if, spot_in, is_named_if, time_put, first_known, rest_known, times_put, IsTimeBy, IsTimeIf, AreTimesIf, IsTimeMore, AreTimesSoFar, AreRowTimes}
 use Rattle.eos_explaining.proofs.Covered.{none_there}
+use Rattle.eos_explaining.proofs.OwnNames.{name_of, named_is}
 use Rattle.eos_explaining.proofs.NamedAgain.{none_again, named_again, none_read, one_read, both_read, them_first, them_more, there_named}
 
 -- ---- one row
@@ -174,6 +178,59 @@ put_more p all was now grown whole i row one lt is put more so =
 pub put_done : (p : Partition) (all : List Row) (was now : List (Option (Option ℤ))) (i : ℕ) → length all ≤ i → now ++ times_put p (drop i all) (drop i was) ≡ times_put p all was → now ≡ times_put p all was
 put_done p all was now i done so = sym (append-nil now) ∙ (sym (ap (λ (rs : List Row). now ++ times_put p rs (drop i was)) (drop_all i all done)) ∙ so)
 
+-- ---- by the batches that stand there
+
+-- a partition that was read by its name has the times of the rows that are in that of this name
+own_by : (o : Option PartitionName) (p : Partition) → is_own o (name_of p) ≡ is_named_if o p
+own_by None p = refl
+own_by (Some own) p = refl
+
+timed_by : (name : PartitionName) (p : Partition) (row : Row) → is_named name p ≡ true → is_timed_in name row ≡ is_named_if (timed_in row) p
+timed_by name p row named = subst (λ (n : PartitionName). is_timed_in n row ≡ is_named_if (timed_in row) p) (sym (named_is name p named)) (own_by (timed_in row) p)
+
+record_by : (p : Partition) (find : Find) (spot : Option Placed) → time_at (at_record find.item.offset spot) (batch_at p (place_if true (at_record find.item.offset spot))) ≡ record_time_in (Some p) find spot
+record_by p find None = refl
+record_by p find (Some q) = refl
+
+first_by : (p : Partition) (placed : Option Placed) → time_at (at_first placed) (batch_at p (place_if true (at_first placed))) ≡ first_time_in (Some p) placed
+first_by p None = refl
+first_by p (Some q) = refl
+
+time_is : (p : Partition) (row : Row) → time_by row (batch_at p (place_if true (spot_of row))) ≡ row_time_in (Some p) row
+time_is p (rows.Record sought find spot) = record_by p find spot
+time_is p (rows.NoRecord sought) = refl
+time_is p (rows.MoreRecords shown all sought) = refl
+time_is p (rows.Batch name wanted placed) = first_by p (Some placed)
+time_is p (rows.First name wanted placed) = first_by p placed
+time_is p (rows.MoreBatches name wanted shown all) = refl
+time_is p (rows.MorePartitions shown all sought) = refl
+time_is p (rows.Segment name base size) = refl
+time_is p (rows.MoreSegments name shown all) = refl
+time_is p (rows.End name end) = refl
+time_is p (rows.Header place name values) = refl
+
+pub put_there : (name : PartitionName) (p : Partition) (row : Row) (was : Option (Option ℤ)) (batch : Option Batch) → is_timed_in name row ≡ true → is_named name p ≡ true → batch ≡ batch_at p (spot_in name row) → Some (time_by row batch) ≡ time_put p row was
+put_there name p row was batch own named is =
+    let so : is_named_if (timed_in row) p ≡ true = sym (timed_by name p row named) ∙ own in
+    let time : time_by row batch ≡ row_time_in (Some p) row = ap (time_by row) is ∙ (ap (λ (b : Bool). time_by row (batch_at p (place_if b (spot_of row)))) own ∙ time_is p row) in
+    ap (λ (t : Option ℤ). Some t) time ∙ ap (λ (b : Bool). if b then Some (row_time_in (Some p) row) else was) (sym so)
+
+pub put_elsewhere : (name : PartitionName) (p : Partition) (row : Row) (was : Option (Option ℤ)) → is_timed_in name row ≡ false → is_named name p ≡ true → was ≡ time_put p row was
+put_elsewhere name p row was own named =
+    let so : is_named_if (timed_in row) p ≡ false = sym (timed_by name p row named) ∙ own in
+    ap (λ (b : Bool). if b then Some (row_time_in (Some p) row) else was) (sym so)
+
+pub place_at : (name : PartitionName) (all : List Row) (i : ℕ) (row : Row) → i < length all → row ≡ get_or all i row → slice_get (map (spot_in name) all) i ≡ Some (spot_in name row)
+place_at name all i row lt is = slice_get-map (spot_in name) all i ∙ ap (option_map (spot_in name)) (slice_get_read all (length all) i row refl lt is)
+
+-- the time of a row in that partition is known then
+pub known_put : (p : Partition) (all : List Row) (found : List (Option (Option ℤ))) (i : ℕ) (row : Row) → slice_get all i ≡ Some row → is_named_if (timed_in row) p ≡ true → first_known (drop i (times_put p all found)) ≡ Some (row_time_in (Some p) row)
+known_put p [] found i row at named = absurd (some_none row (sym at))
+known_put p (x ∷ xs) found zero row at named =
+    let same : x ≡ row = cc in
+    subst (λ (r : Row). time_put p r (first_known found) ≡ Some (row_time_in (Some p) row)) (sym same) (ap (λ (b : Bool). if b then Some (row_time_in (Some p) row) else first_known found) named)
+known_put p (x ∷ xs) found (suc i) row at named = known_put p xs (rest_known found) i row at named
+
 -- ---- the next row
 
 module _ (known : ℕ → Known) (shape : EvidenceParts) (all : List Row) (number : ℕ) where
@@ -188,7 +245,7 @@ module _ (known : ℕ → Known) (shape : EvidenceParts) (all : List Row) (numbe
     is = λ before row so at. still shape before [] row time (at_known shape before all old number row time so at is);
   }
 
-  more_untimed : (old new : List (Option (Option ℤ))) (row : Row) → slice_get all number ≡ Some row → timed_in row ≡ None → new ≡ old → IsTimeMore known shape all number old new None
+  pub more_untimed : (old new : List (Option (Option ℤ))) (row : Row) → slice_get all number ≡ Some row → timed_in row ≡ None → new ≡ old → IsTimeMore known shape all number old new None
   more_untimed old new row here none same = record {
     more = [];
     read = none_read known shape.partitions;
@@ -218,16 +275,43 @@ module _ (known : ℕ → Known) (shape : EvidenceParts) (all : List Row) (numbe
         (subst (IsTimeBy shape (before ++ p ∷ []) row) (sym is) (by_read shape before p row name names (named_again known 0 shape.partitions name p again)));
   }
 
-  -- where no partition was read, or this one
+  -- by what was picked in the partition of its name
 
-  pub more_none : (old : List (Option (Option ℤ))) (row : Row) (o : Option PartitionName) → slice_get all number ≡ Some row → o ≡ timed_in row → IsReadFor known shape.partitions o None → IsTimeMore known shape all number old old None
-  more_none old row None here names again = more_untimed old old row here (sym names) refl
-  more_none old row (Some name) here names again = more_nowhere old old row name here (sym names) again refl
+  pub more_unpicked : (old : List (Option (Option ℤ))) (row : Row) (name : PartitionName) (places : List (Option Placed)) → slice_get all number ≡ Some row → timed_in row ≡ Some name → ArePickedNamed known shape.partitions name places None
+      → IsTimeMore known shape all number old old None
+  more_unpicked old row name places here names picked = by picked.read picked.again picked.are
+    where
+      by : (read : Option Partition) → IsNamedAgain known 0 shape.partitions name read → ArePickedOfRead read places None → IsTimeMore known shape all number old old None
+      by None again are = more_nowhere old old row name here names again refl
+      by (Some p) again are = absurd are
 
-  pub more_some : (old new : List (Option (Option ℤ))) (row : Row) (o : Option PartitionName) (p : Partition) (time : Option ℤ) → slice_get all number ≡ Some row → o ≡ timed_in row → IsReadFor known shape.partitions o (Some p)
-      → new ≡ times_put p all old → time ≡ row_time_in (Some p) row → IsTimeMore known shape all number old new time
-  more_some old new row None p time here names again put is = absurd (some_none p again)
-  more_some old new row (Some name) p time here names again put is = more_read old new row name p time here (sym names) again put is
+  pub more_picked : (old new : List (Option (Option ℤ))) (row : Row) (name : PartitionName) (picked : Picked) (known_now : Option (Option ℤ)) (time : Option ℤ) → slice_get all number ≡ Some row → timed_in row ≡ Some name
+      → ArePickedNamed known shape.partitions name (map (spot_in name) all) (Some picked)
+      → ((p : Partition) → is_named name p ≡ true → ArePickedOf p (map (spot_in name) all) picked → new ≡ times_put p all old) → known_now ≡ first_known (drop number new) → known_now ≡ Some time → IsTimeMore known shape all number old new time
+  more_picked old new row name picked known_now time here names of put now is = by of.read of.again of.are
+    where
+      by : (read : Option Partition) → IsNamedAgain known 0 shape.partitions name read → ArePickedOfRead read (map (spot_in name) all) (Some picked) → IsTimeMore known shape all number old new time
+      by None again are = absurd are
+      by (Some p) again are =
+          let named = named_again known 0 shape.partitions name p again in
+          let all_put : new ≡ times_put p all old = put p named are in
+          let in_it : is_named_if (timed_in row) p ≡ true = ap (λ (o : Option PartitionName). is_named_if o p) names ∙ named in
+          let there : first_known (drop number new) ≡ Some (row_time_in (Some p) row) = ap (λ (l : List (Option (Option ℤ))). first_known (drop number l)) all_put ∙ known_put p all old number row here in_it in
+          let same : Some time ≡ Some (row_time_in (Some p) row) = sym is ∙ (now ∙ there) in
+          more_read old new row name p time here names again all_put cc
+
+  pub more_lost : (old new : List (Option (Option ℤ))) (row : Row) (name : PartitionName) (picked : Picked) (known_now : Option (Option ℤ)) → slice_get all number ≡ Some row → timed_in row ≡ Some name
+      → ArePickedNamed known shape.partitions name (map (spot_in name) all) (Some picked)
+      → ((p : Partition) → is_named name p ≡ true → ArePickedOf p (map (spot_in name) all) picked → new ≡ times_put p all old) → known_now ≡ first_known (drop number new) → known_now ≡ None → ⊥
+  more_lost old new row name picked known_now here names of put now none = by of.read of.again of.are
+    where
+      by : (read : Option Partition) → IsNamedAgain known 0 shape.partitions name read → ArePickedOfRead read (map (spot_in name) all) (Some picked) → ⊥
+      by None again are = are
+      by (Some p) again are =
+          let named = named_again known 0 shape.partitions name p again in
+          let in_it : is_named_if (timed_in row) p ≡ true = ap (λ (o : Option PartitionName). is_named_if o p) names ∙ named in
+          let there : first_known (drop number new) ≡ Some (row_time_in (Some p) row) = ap (λ (l : List (Option (Option ℤ))). first_known (drop number l)) (put p named are) ∙ known_put p all old number row here in_it in
+          some_none (row_time_in (Some p) row) (sym there ∙ (sym now ∙ none))
 
 -- ---- one after the other
 

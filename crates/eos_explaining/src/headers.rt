@@ -14,13 +14,12 @@ ghost use Rattle.eos_explaining.specs.steps.Again.{AreHeadersThere, ReadsMore};
 ghost use Rattle.eos_explaining.specs.steps.HeadersRead.{AreHeadersAt};
 
 use crate::again::read_name;
-use crate::times::batch_of;
 use eos_base::Listed;
 use eos_batch::{Batch, Headers};
 use eos_claims::Place;
 use eos_sought::{Folded, Placed, Wanted, batches_of};
 use eos_source::Source;
-use eos_source_check::{Pieces, Unlisted, partition_again};
+use eos_source_check::{Pieces, Unlisted, batches_again};
 use std::alloc::{AllocError, Global};
 
 /// The batch that holds the record of a place, if one does.
@@ -45,8 +44,7 @@ fn headers_in(alloc: Global, batch: &Batch, number: u64) -> Result<Headers, Allo
     records[number as usize].headers.clone()
 }
 
-/// The headers of the record of a place in the batch that stands there, by the bytes of its partition, which is read again for it; none
-/// where no such record reads.
+/// The headers of the record of a place in the batch that stands there, which is read again for it; none where no such record reads.
 fn headers_at<S: Source>(
     alloc: Global,
     pieces: &Pieces<'_, S>,
@@ -56,15 +54,22 @@ fn headers_at<S: Source>(
     ensures are { IfOk result (AreHeadersAt (known_by (S.said pieces.now.source.now) (S.is_log pieces.now.source.now)) pieces.now.shape.now place.now placed) }
     ensures unread { IfErr result (IsUnread (S.outcomes pieces.now.source.now) (length (segments_of pieces.now.shape.now.partitions))) }
 {
-    let read = partition_again(alloc, pieces.source, pieces.shape, &place.partition)?;
-    let Some(partition) = read else {
+    let places = [Some(placed)];
+    let read = batches_again(
+        alloc,
+        pieces.source,
+        pieces.shape,
+        &place.partition,
+        &places,
+    )?;
+    let Some(picked) = read else {
         return Ok(Listed::new(Vec::new(alloc)));
     };
-    match batch_of(alloc, &partition, placed)? {
+    match picked.at(0) {
         None => Ok(Listed::new(Vec::new(alloc))),
         Some(batch) => {
             let number = place.offset.saturating_sub(placed.standing.head.offset);
-            let headers = headers_in(alloc, &batch, number)?;
+            let headers = headers_in(alloc, batch, number)?;
             Ok(headers)
         }
     }

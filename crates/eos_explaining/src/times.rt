@@ -1,117 +1,54 @@
-//! The times of rows. The partitions that have them are read once more, each whole, one after the other, and none is held while the next one
-//! is read.
+//! The times of rows. The partitions that have them are read once more, one after the other, and no more of one is held than the batches of
+//! these rows.
 
-ghost use Rattle.std.specs.Prelude.{◌≡◌, ◌<◌, Some, drop, length, IfOk, IfErr};
+ghost use Rattle.std.specs.Prelude.{◌≡◌, ◌<◌, Some, true, drop, length, map, IfOk, IfErr};
 ghost use Rattle.std.specs.Option.{option_copied};
 ghost use Rattle.eos_evidence.specs.Evidence.{segments_of};
-ghost use Rattle.eos_sought.specs.Batches.{segment_named, batch_in_bytes, batch_in};
-ghost use Rattle.eos_sought.specs.Times.{time_in};
+ghost use Rattle.eos_evidence.specs.declared.partition.Partition.{Partition};
+ghost use Rattle.eos_sought.specs.Partitions.{is_named};
 ghost use Rattle.eos_source.specs.Said.{known_by};
+ghost use Rattle.eos_source_check.specs.Picked.{batch_at, ArePickedOf};
 ghost use Rattle.eos_source_check.specs.Refusals.{IsUnread};
-ghost use Rattle.eos_explaining.specs.steps.Times.{name_if, timed_in, first_time_in, record_time_in, row_time_in, time_put, times_put, first_known, AreRowTimes, IsReadFor, IsTimeMore};
+ghost use Rattle.eos_explaining.specs.steps.Times.{name_if, timed_in, spot_of, time_by, is_timed_in, spot_in, time_put, times_put, first_known, AreRowTimes, IsTimeMore};
 
-use bytes::Bytes;
 use eos_base::PartitionName;
-use eos_batch::{Batch, next_batch};
-use eos_evidence::{Partition, Segment};
-use eos_sought::{Find, Placed, is_named, time_of};
+use eos_batch::Batch;
+use eos_sought::{Placed, time_of};
 use eos_source::Source;
-use eos_source_check::{Pieces, Unlisted, partition_again};
+use eos_source_check::{Picked, Pieces, Unlisted, batches_again};
 use eos_story::Row;
 use std::alloc::{AllocError, Global};
 
 // ---- in a partition
 
-/// The first segment of this name.
-fn segment_named(segments: &[Segment], base: i64) -> Option<&Segment>
-    ensures { option_copied result ≡ segment_named base segments.now }
-{
-    for segment in segments {
-        if segment.base == base {
-            return Some(segment);
-        }
-    }
-    None
-}
-
-fn batch_in_bytes(alloc: Global, bytes: &Bytes, byte: usize) -> Result<Option<Batch>, AllocError>
-    ensures { IfOk result (λ batch. batch ≡ batch_in_bytes bytes.now byte) }
-{
-    if byte >= bytes.len() {
-        return Ok(None);
-    }
-    match next_batch(alloc, bytes, byte)? {
-        Ok((batch, _size)) => Ok(Some(batch)),
-        Err(_) => Ok(None),
-    }
-}
-
-/// The batch that stands there, with its records. None where no batch reads there.
-pub(crate) fn batch_of(
-    alloc: Global,
-    partition: &Partition,
-    placed: Placed,
-) -> Result<Option<Batch>, AllocError>
-    ensures { IfOk result (λ batch. batch ≡ batch_in (Some partition.now) placed) }
-{
-    match segment_named(partition.segments.as_slice(), placed.segment) {
-        None => Ok(None),
-        Some(segment) => batch_in_bytes(alloc, &segment.bytes, placed.standing.byte),
-    }
-}
-
-/// The time of the record of this offset in the batch that stands there.
-fn time_in(
-    alloc: Global,
-    partition: &Partition,
-    placed: Placed,
-    offset: u64,
-) -> Result<Option<i64>, AllocError>
-    ensures { IfOk result (λ time. time ≡ time_in (Some partition.now) placed offset) }
-{
-    match batch_of(alloc, partition, placed)? {
-        None => Ok(None),
-        Some(batch) => Ok(time_of(&batch, placed, offset)),
-    }
-}
-
-/// Of a batch the time of its first record.
-fn first_time(
-    alloc: Global,
-    partition: &Partition,
-    placed: Option<Placed>,
-) -> Result<Option<i64>, AllocError>
-    ensures { IfOk result (λ time. time ≡ first_time_in (Some partition.now) placed) }
-{
-    match placed {
-        None => Ok(None),
-        Some(placed) => time_in(alloc, partition, placed, placed.standing.head.offset),
-    }
-}
-
-fn record_time(
-    alloc: Global,
-    partition: &Partition,
-    find: &Find,
-    spot: Option<Placed>,
-) -> Result<Option<i64>, AllocError>
-    ensures { IfOk result (λ time. time ≡ record_time_in (Some partition.now) find.now spot) }
-{
-    match spot {
-        None => Ok(None),
-        Some(placed) => time_in(alloc, partition, placed, find.item.offset),
-    }
-}
-
-/// The time of what a row is of, where it is of a record or a batch of this partition.
-fn row_time(alloc: Global, partition: &Partition, row: &Row) -> Result<Option<i64>, AllocError>
-    ensures { IfOk result (λ time. time ≡ row_time_in (Some partition.now) row.now) }
+/// The place of what a row is of, and the offset of its record, where it is of a record or a batch: of a batch that of its first.
+fn spot_of(row: &Row) -> Option<(Placed, u64)>
+    ensures { result ≡ spot_of row.now }
 {
     match row {
-        Row::Record { find, spot, .. } => record_time(alloc, partition, find, *spot),
-        Row::Batch { placed, .. } => first_time(alloc, partition, Some(*placed)),
-        Row::First { placed, .. } => first_time(alloc, partition, *placed),
-        _ => Ok(None),
+        Row::Record { find, spot, .. } => match *spot {
+            None => None,
+            Some(placed) => Some((placed, find.item.offset)),
+        },
+        Row::Batch { placed, .. } => Some((*placed, placed.standing.head.offset)),
+        Row::First { placed, .. } => match *placed {
+            None => None,
+            Some(placed) => Some((placed, placed.standing.head.offset)),
+        },
+        _ => None,
+    }
+}
+
+/// The time of what a row is of, by the batch that stands there.
+fn time_by(row: &Row, batch: Option<&Batch>) -> Option<i64>
+    ensures { result ≡ time_by row.now (option_copied batch.entry) }
+{
+    match spot_of(row) {
+        None => None,
+        Some((placed, offset)) => match batch {
+            None => None,
+            Some(batch) => time_of(batch, placed, offset),
+        },
     }
 }
 
@@ -153,39 +90,75 @@ fn known_at(found: &[Option<Option<i64>>], number: usize) -> Option<Option<i64>>
     }
 }
 
-/// What is known of the time of a row, once this partition was read.
-fn time_put(
-    alloc: Global,
-    partition: &Partition,
-    row: &Row,
-    was: Option<Option<i64>>,
-) -> Result<Option<Option<i64>>, AllocError>
-    ensures { IfOk result (λ found. found ≡ time_put partition.now row.now was) }
+/// Whether a row is of a record or a batch of the partition of this name.
+fn is_in(name: &PartitionName, row: &Row) -> bool
+    ensures { result ≡ is_timed_in name.now row.now }
 {
     match timed_in(row) {
-        None => Ok(was),
-        Some(name) => {
-            if !is_named(partition, name) {
-                return Ok(was);
-            }
-            let time = row_time(alloc, partition, row)?;
-            Ok(Some(time))
+        None => false,
+        Some(own) => {
+            name.topic.as_slice().cmp(own.topic.as_slice()).is_eq()
+                && name.partition == own.partition
         }
     }
 }
 
-/// What is known of the times of these rows, once this partition was read.
+/// The place of what a row is of, where it is in the partition of this name.
+fn spot_in(name: &PartitionName, row: &Row) -> Option<Placed>
+    ensures { result ≡ spot_in name.now row.now }
+{
+    if !is_in(name, row) {
+        return None;
+    }
+    match spot_of(row) {
+        None => None,
+        Some((placed, _offset)) => Some(placed),
+    }
+}
+
+fn spots_in(
+    alloc: Global,
+    name: &PartitionName,
+    rows: &[Row],
+) -> Result<Vec<Option<Placed>>, AllocError>
+    ensures { IfOk result (λ places. places.items ≡ map (spot_in name.now) rows.now) }
+{
+    let mut places = Vec::new(alloc);
+    for row in rows {
+        places.push(spot_in(name, row))?;
+    }
+    Ok(places)
+}
+
+/// What is known of the time of a row, once the batches of the partition of this name were read.
+fn time_put(
+    name: &PartitionName,
+    row: &Row,
+    was: Option<Option<i64>>,
+    batch: Option<&Batch>,
+) -> Option<Option<i64>>
+    ensures { (p : Partition) → is_named name.now p ≡ true → option_copied batch.entry ≡ batch_at p (spot_in name.now row.now) → result ≡ time_put p row.now was }
+{
+    if is_in(name, row) {
+        Some(time_by(row, batch))
+    } else {
+        was
+    }
+}
+
+/// What is known of the times of these rows, once their batches in the partition of this name were read.
 fn times_put(
     alloc: Global,
-    partition: &Partition,
+    name: &PartitionName,
     rows: &[Row],
     was: &[Option<Option<i64>>],
+    picked: &Picked,
 ) -> Result<Vec<Option<Option<i64>>>, AllocError>
-    ensures { IfOk result (λ found. found.items ≡ times_put partition.now rows.now was.now) }
+    ensures { (p : Partition) → is_named name.now p ≡ true → ArePickedOf p (map (spot_in name.now) rows.now) picked.now → IfOk result (λ found. found.items ≡ times_put p rows.now was.now) }
 {
     let mut found = Vec::new(alloc);
     for i in 0..rows.len() {
-        let one = time_put(alloc, partition, &rows[i], known_at(was, i))?;
+        let one = time_put(name, &rows[i], known_at(was, i), picked.at(i));
         found.push(one)?;
     }
     Ok(found)
@@ -193,25 +166,7 @@ fn times_put(
 
 // ---- all
 
-/// The partition of this name, if one is named, as it is read now.
-fn read_for<S: Source>(
-    alloc: Global,
-    pieces: &Pieces<'_, S>,
-    name: Option<&PartitionName>,
-) -> Result<Option<Partition>, Unlisted<S::Fault>>
-    ensures read { IfOk result (IsReadFor (known_by (S.said pieces.now.source.now) (S.is_log pieces.now.source.now)) pieces.now.shape.now.partitions (option_copied name.entry)) }
-    ensures unread { IfErr result (IsUnread (S.outcomes pieces.now.source.now) (length (segments_of pieces.now.shape.now.partitions))) }
-{
-    match name {
-        None => Ok(None),
-        Some(name) => {
-            let read = partition_again(alloc, pieces.source, pieces.shape, name)?;
-            Ok(read)
-        }
-    }
-}
-
-/// The time of the row of this number. The partition that has it is read, and the times of other rows that it has are known from then on.
+/// The time of the row of this number. The batches of rows in the partition that has it are read, and their times are known from then on.
 fn read_time<S: Source>(
     alloc: Global,
     pieces: &Pieces<'_, S>,
@@ -223,13 +178,18 @@ fn read_time<S: Source>(
     ensures time { IfOk result (IsTimeMore (known_by (S.said pieces.now.source.now) (S.is_log pieces.now.source.now)) pieces.now.shape.now rows.now number found.old.items found.new.items) }
     ensures unread { IfErr result (IsUnread (S.outcomes pieces.now.source.now) (length (segments_of pieces.now.shape.now.partitions))) }
 {
-    let row = &rows[number];
-    match read_for(alloc, pieces, timed_in(row))? {
+    let Some(name) = timed_in(&rows[number]) else {
+        return Ok(None);
+    };
+    let places = spots_in(alloc, name, rows)?;
+    match batches_again(alloc, pieces.source, pieces.shape, name, places.as_slice())? {
         None => Ok(None),
-        Some(partition) => {
-            *found = times_put(alloc, &partition, rows, found.as_slice())?;
-            let time = row_time(alloc, &partition, row)?;
-            Ok(time)
+        Some(picked) => {
+            *found = times_put(alloc, name, rows, found.as_slice(), &picked)?;
+            match known_at(found.as_slice(), number) {
+                None => Ok(None),
+                Some(time) => Ok(time),
+            }
         }
     }
 }
@@ -255,7 +215,7 @@ fn next_time<S: Source>(
     }
 }
 
-/// The times of these rows, where they have one. Each partition that has one is read once more, whole, and dropped before the next one is.
+/// The times of these rows, where they have one. Each partition that has one is read once more, one after the other.
 ///
 /// # Errors
 /// A piece isn't there any more, is a fold, or can't be read; or want of memory.

@@ -1,5 +1,5 @@
 -- Segments that are read again for their folds, and where a partition stands among all.
-use Rattle.std.proofs.Common.{◌≡◌, ◌<◌, ◌≤◌, ℕ, ◌+◌, List, [], ◌∷◌, ◌++◌, length, take, get_or, Option, Some, None, true, false, refl, sym, ap, subst, ◌∙◌, arith}
+use Rattle.std.proofs.Common.{◌≡◌, ◌<◌, ◌≤◌, ℕ, ◌+◌, List, [], ◌∷◌, ◌++◌, length, take, get_or, Option, Some, None, true, refl, sym, ap, subst, ◌∙◌, arith}
 use Rattle.std.specs.Prelude.{slice_get}
 use Rattle.std.proofs.lemmas.List.{take_more, take_all, length-take-le}
 use Rattle.std.proofs.lemmas.Option.{slice_get_read}
@@ -10,7 +10,7 @@ use Rattle.eos_evidence.specs.Evidence.{EvidenceParts, IsEvidence, segments_of}
 use Rattle.eos_fold_file.specs.declared.file.FoldFile.{FoldFile}
 use Rattle.eos_fold_file.specs.Folds.{IsFoldOf}
 use Rattle.eos_sought.specs.declared.folded.Folded.{Folded}
-use Rattle.eos_sought.specs.Folded.{AreFoldsOf, IsFolded}
+use Rattle.eos_sought.specs.Folded.{AreFoldsOf}
 use Rattle.eos_sought.specs.Partitions.{is_named}
 use Rattle.eos_source.specs.Said.{Known}
 use Rattle.eos_source_check.specs.Again.{IsLogAgain, AreLogsAgain, IsAgain, IsNamedAgain, AreFoldsNamed}

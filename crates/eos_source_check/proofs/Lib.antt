@@ -12,6 +12,8 @@ pub mod FaultsSame
 pub mod FirstFound
 pub mod LogsAgain
 pub mod FoldsAgain
+pub mod PickedBatches
+pub mod PicksTold
 pub mod PassedAgain
 pub mod ListedAgain
 pub mod KnownAgain

@@ -3,6 +3,7 @@ pub mod steps
 pub mod AllFaults
 pub mod LaterFaults
 pub mod Again
+pub mod Picked
 pub mod Listed
 pub mod Refusals
 pub mod Timed

@@ -7,3 +7,5 @@ pub mod Rising
 pub mod Each
 pub mod JudgedBy
 pub mod FoldsAgain
+pub mod Picking
+pub mod PicksAgain

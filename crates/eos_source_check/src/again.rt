@@ -22,7 +22,7 @@ use eos_touch::PartitionFault;
 use std::alloc::Global;
 
 /// The reader of the piece of this number, if it is a log.
-fn open_log<S: Source>(
+pub(crate) fn open_log<S: Source>(
     alloc: Global,
     source: &S,
     piece: u64,
@@ -130,7 +130,7 @@ fn fold_again<S: Source>(
 }
 
 /// Where the partition of this name stands among all, if it is one of them, and the number of its first piece.
-fn index_named(shape: &Evidence, name: &PartitionName) -> Option<(usize, u64)>
+pub(crate) fn index_named(shape: &Evidence, name: &PartitionName) -> Option<(usize, u64)>
     ensures none { IfNone result ((known : ℕ → Known) → IsNamedAgain known 0 shape.now.partitions name.now None) }
     ensures some { IfSome result (λ at. IsFoundAt shape.now.partitions name.now at.0 at.1) }
 {

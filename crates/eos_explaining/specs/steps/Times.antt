@@ -1,14 +1,16 @@
 -- The times of rows, by partitions that were read once more for them.
-use Rattle.std.specs.Prelude.{◌≡◌, ⊤, ℕ, ℤ, List, [], ◌∷◌, ◌++◌, map, take, Bool, false, Option, Some, None, slice_get, if◌then◌else◌}
+use Rattle.std.specs.Prelude.{◌≡◌, ⊤, ℕ, ◌-◌, ℤ, List, [], ◌∷◌, ◌++◌, map, take, Bool, true, false, ◌&&◌, Option, Some, None, slice_get, if◌then◌else◌}
+use Rattle.std.specs.Cmp.Lexicographic.{slice_cmp}
+use Rattle.std.specs.Ordering.{nat_cmp, int_eq, is_eq}
 use Rattle.eos_base.specs.declared.partition_name.PartitionName.{PartitionName}
+use Rattle.eos_batch.specs.declared.batch.Batch.{Batch}
 use Rattle.eos_evidence.specs.declared.partition.Partition.{Partition}
 use Rattle.eos_evidence.specs.Evidence.{EvidenceParts, IsEvidence}
 use Rattle.eos_sought.specs.Partitions.{is_named}
-use Rattle.eos_sought.specs.Times.{time_in}
+use Rattle.eos_sought.specs.Times.{time_in, time_in_batch}
 use Rattle.eos_sought.specs.declared.finding.Find.{Find}
 use Rattle.eos_sought.specs.declared.partition.Placed.{Placed}
 use Rattle.eos_source.specs.Said.{Known}
-use Rattle.eos_source_check.specs.Again.{IsNamedAgain}
 use Rattle.eos_story.specs.declared.row.Row.{Row}
 use Rattle.eos_story.specs.declared.row.Row.TheVariants as rows
 use Rattle.eos_explaining.specs.Folders.{AreRead, HasThem}
@@ -56,6 +58,54 @@ row_time_in partition (rows.MoreSegments name shown all) = None
 row_time_in partition (rows.End name end) = None
 row_time_in partition (rows.Header place name values) = None
 
+-- ---- by the batches that stand there
+
+abbrev pub at_record : ℕ → Option Placed → Option (Placed × ℕ)
+at_record offset None = None
+at_record offset (Some p) = Some (p, offset)
+
+abbrev pub at_first : Option Placed → Option (Placed × ℕ)
+at_first None = None
+at_first (Some p) = Some (p, p.standing.head.offset)
+
+-- the place of what a row is of, and the offset of its record
+abbrev pub spot_of : Row → Option (Placed × ℕ)
+spot_of (rows.Record sought find spot) = at_record find.item.offset spot
+spot_of (rows.NoRecord sought) = None
+spot_of (rows.MoreRecords shown all sought) = None
+spot_of (rows.Batch name wanted placed) = at_first (Some placed)
+spot_of (rows.First name wanted placed) = at_first placed
+spot_of (rows.MoreBatches name wanted shown all) = None
+spot_of (rows.MorePartitions shown all sought) = None
+spot_of (rows.Segment name base size) = None
+spot_of (rows.MoreSegments name shown all) = None
+spot_of (rows.End name end) = None
+spot_of (rows.Header place name values) = None
+
+abbrev pub time_at : Option (Placed × ℕ) → Option Batch → Option ℤ
+time_at None batch = None
+time_at (Some s) batch = time_in_batch batch (s.1 - s.0.standing.head.offset)
+
+abbrev pub time_by : Row → Option Batch → Option ℤ
+time_by row batch = time_at (spot_of row) batch
+
+abbrev pub is_own : Option PartitionName → PartitionName → Bool
+is_own None name = false
+is_own (Some own) name = is_eq (slice_cmp nat_cmp name.topic own.topic) && int_eq name.partition own.partition
+
+-- whether the partition of this name has the time of a row
+abbrev pub is_timed_in : PartitionName → Row → Bool
+is_timed_in name row = is_own (timed_in row) name
+
+abbrev pub place_if : Bool → Option (Placed × ℕ) → Option Placed
+place_if false spot = None
+place_if true None = None
+place_if true (Some s) = Some s.0
+
+-- the place of what a row is of, where it is in the partition of this name
+abbrev pub spot_in : PartitionName → Row → Option Placed
+spot_in name row = place_if (is_timed_in name row) (spot_of row)
+
 -- ---- what is known of the times of rows
 
 abbrev pub is_named_if : Option PartitionName → Partition → Bool
@@ -94,11 +144,6 @@ AreTimesIf shape also (row ∷ others) [] = ⊤
 AreTimesIf shape also (row ∷ others) (f ∷ fs) = IsTimeIf shape also row f × AreTimesIf shape also others fs
 
 -- ---- the code's steps
-
--- the partition of this name, where one is named, as it was read
-abbrev pub IsReadFor : (ℕ → Known) → List Partition → Option PartitionName → Option Partition → Type 0
-IsReadFor known shapes None read = read ≡ None
-IsReadFor known shapes (Some name) read = IsNamedAgain known 0 shapes name read
 
 -- the time of the row of this number, and what is known then of all; further partitions were read for it
 pub record IsTimeMore (known : ℕ → Known) (shape : EvidenceParts) (all : List Row) (number : ℕ) (old new : List (Option (Option ℤ))) (time : Option ℤ) : Type 0 where
