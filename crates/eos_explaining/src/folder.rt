@@ -127,8 +127,8 @@ fn told<W: Write>(
 }
 
 /// Writes the story of a fault of the evidence in a folder of a disk, of this number in the list of all; or where it has none and no
-/// number is said, the line of a yes. The evidence is read by at most so many threads, and then the partitions that the story names once
-/// more, whole.
+/// number is said, the line of a yes. The evidence is read by at most so many threads, and then of the partitions that the story names,
+/// once more, what it needs: their folds, and the batches of its rows.
 ///
 /// # Errors
 /// At `CannotWrite` a front of the text was written. Before all is read and judged nothing is: `Refused` says which file or folder is no

@@ -151,8 +151,9 @@ fn of_shape<D: Disk, T: Watch, R: Threads + Sync>(
 /// The stories of the first faults of the evidence in a folder of a disk, in the order of the list of all; so many, or all where there are
 /// fewer. A yes has none.
 ///
-/// The folder is read once, and no more of it is held than the verdict wants; then the partitions that the stories name are read once more,
-/// whole: of a disk of which nothing is known they are those of an evidence that has these as they were read again.
+/// The folder is read once, and no more of it is held than the verdict wants; then, of the partitions that the stories name, what they
+/// need: their folds, and the batches of their rows. Of a disk of which nothing is known these are of an evidence that has the partitions as
+/// they were read again.
 ///
 /// # Errors
 /// Those of `explain_folder_to` before it writes.
