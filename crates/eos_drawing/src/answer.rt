@@ -121,7 +121,7 @@ fn answer_numbered<S: Source>(
     Ok(Answer::Drawn(drawn))
 }
 
-/// The same around a later fault than the first. Partitions that have faults by themselves are read once more, whole, one after the
+/// The same around a later fault than the first. Of partitions that have faults by themselves the folds are read once more, one after the
 /// other.
 fn answer_later<S: Source>(
     alloc: Global,

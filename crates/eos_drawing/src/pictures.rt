@@ -94,7 +94,7 @@ fn only_first<S: Source>(
     Ok(texts)
 }
 
-/// Those of the first of all faults. Partitions that have faults by themselves are read once more, whole, one after the other.
+/// Those of the first of all faults. Of partitions that have faults by themselves the folds are read once more, one after the other.
 fn of_list<S: Source>(
     alloc: Global,
     pieces: Pieces<'_, S>,

@@ -8,7 +8,6 @@ pub mod Tellings
 pub mod OwnNames
 pub mod NamedAgain
 pub mod Covered
-pub mod PartitionsAgain
 pub mod SeenLogs
 pub mod LinesTimed
 pub mod TimesFound

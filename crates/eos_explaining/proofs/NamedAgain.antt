@@ -66,8 +66,5 @@ them_more e xs ys has = λ p here. has p (append_right xs ys p here)
 
 -- ---- in an evidence
 
-pub found_alone : (name : PartitionName) (p : Partition) → is_named name p ≡ true → partition_named name (p ∷ []) ≡ Some p
-found_alone name p named = rw named refl
-
 pub there_named : (e : EvidenceParts) (name : PartitionName) (p : Partition) → is_named name p ≡ true → HasThem e (p ∷ []) → partition_named name e.partitions ≡ Some p
 there_named e name p named has = subst (λ (n : PartitionName). partition_named n e.partitions ≡ Some p) (sym (named_is name p named)) (has p (inl refl))

@@ -9,12 +9,13 @@ use Rattle.eos_evidence.specs.declared.partition.Partition.{Partition}
 use Rattle.eos_evidence.specs.Evidence.{EvidenceParts, IsEvidence}
 use Rattle.eos_evidence.specs.SpecFields.{SpecFields}
 use Rattle.eos_fold.specs.Parts.{PartLog}
+use Rattle.eos_kept.specs.declared.part.Told.{Told}
 use Rattle.eos_manifest.specs.Manifests.{is_judged}
 use Rattle.eos_reading.specs.declared.wanted.Wanted.TheVariants.{Texts}
 use Rattle.eos_reading.specs.Wanted.{kept_log, wanted_log, wanted_logs}
 use Rattle.eos_sought.specs.Partitions.{partition_named}
 use Rattle.eos_source.specs.Said.{Known}
-use Rattle.eos_source_check.specs.Again.{IsNamedAgain, name_of}
+use Rattle.eos_source_check.specs.Again.{IsNamedAgain, AreTextsOfRead, AreTextsNamed, name_of}
 use Rattle.eos_explaining.specs.Seen.{seen_log, seen_logs}
 use Rattle.eos_explaining.specs.steps.Found.{IsItsLog}
 use Rattle.eos_explaining.specs.steps.Seen.{AreTextsBy, IsSeenBy, AreSeenSoFar, AreAllSeenBy, AreSeenBy}
@@ -50,7 +51,7 @@ texts_seen e part log texts whole name p is i named found of wanted =
     let one : whole ≡ log = one_log i.partition whole log (subst (λ (q : Partition). IsLogOf q whole) (sym same) of) i.of in
     wanted ∙ ap (wanted_log Texts) one
 
-pub texts_by : (known : ℕ → Known) (shape : EvidenceParts) (part texts whole : PartLog) (name : PartitionName) (p : Partition) → name ≡ record { topic = part.topic; partition = part.number }
+texts_by : (known : ℕ → Known) (shape : EvidenceParts) (part texts whole : PartLog) (name : PartitionName) (p : Partition) → name ≡ record { topic = part.topic; partition = part.number }
     → IsNamedAgain known 0 shape.partitions name (Some p) → IsLogOf p whole → texts ≡ wanted_log Texts whole → AreTextsBy known shape part texts
 texts_by known shape part texts whole name p named again of wanted = record {
   also = p ∷ [];
@@ -66,13 +67,37 @@ none_unread shape e part log name is_shape is spec i named none =
     let not_there = none_there shape e name is_shape is spec none in
     cc (there, not_there)
 
-pub no_texts : (known : ℕ → Known) (shape : EvidenceParts) (part texts : PartLog) (name : PartitionName) → IsEvidence shape → name ≡ record { topic = part.topic; partition = part.number }
+no_texts : (known : ℕ → Known) (shape : EvidenceParts) (part texts : PartLog) (name : PartitionName) → IsEvidence shape → name ≡ record { topic = part.topic; partition = part.number }
     → IsNamedAgain known 0 shape.partitions name None → AreTextsBy known shape part texts
 no_texts known shape part texts name is_shape named again = record {
   also = [];
   read = none_read known shape.partitions;
   are = λ e log is spec has i. absurd (none_unread shape e part log name is_shape is spec i named (none_again known 0 shape.partitions name again));
 }
+
+-- by its name
+
+pub none_named : (known : ℕ → Known) (shape : EvidenceParts) (part texts : PartLog) (name : PartitionName) (found : Option Told) → IsEvidence shape → name ≡ record { topic = part.topic; partition = part.number }
+    → found ≡ None → AreTextsNamed known shape.partitions name found → AreTextsBy known shape part texts
+none_named known shape part texts name found is_shape named none texts_are = go t.read t.again t.are
+  where
+    t : AreTextsNamed known shape.partitions name None
+    t = subst (AreTextsNamed known shape.partitions name) none texts_are
+
+    go : (read : Option Partition) → IsNamedAgain known 0 shape.partitions name read → AreTextsOfRead read None → AreTextsBy known shape part texts
+    go None again are = no_texts known shape part texts name is_shape named again
+    go (Some p) again are = absurd are
+
+pub told_named : (known : ℕ → Known) (shape : EvidenceParts) (part : PartLog) (name : PartitionName) (found : Option Told) (told : Told) → name ≡ record { topic = part.topic; partition = part.number }
+    → found ≡ Some told → AreTextsNamed known shape.partitions name found → AreTextsBy known shape part told.part
+told_named known shape part name found told named some texts_are = go t.read t.again t.are
+  where
+    t : AreTextsNamed known shape.partitions name (Some told)
+    t = subst (AreTextsNamed known shape.partitions name) some texts_are
+
+    go : (read : Option Partition) → IsNamedAgain known 0 shape.partitions name read → AreTextsOfRead read (Some told) → AreTextsBy known shape part told.part
+    go None again are = absurd are
+    go (Some p) again are = texts_by known shape part told.part are.part.log name p named again are.part.of are.part.wanted
 
 -- ---- of a topic that is named or not
 

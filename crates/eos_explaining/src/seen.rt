@@ -9,11 +9,10 @@ ghost use Rattle.eos_explaining.specs.steps.Seen.{AreTextsBy, IsSeenBy, AreAllSe
 
 use eos_base::PartitionName;
 use eos_check::Verdict;
-use eos_kept::{Asked, Logs, Part, told_in};
+use eos_kept::{Logs, Part};
 use eos_manifest::is_judged;
-use eos_reading::Wanted;
 use eos_source::Source;
-use eos_source_check::{Judged, Pieces, Unlisted, partition_again};
+use eos_source_check::{Judged, Pieces, Unlisted, texts_again};
 use eos_verdict::{Fault, LineageFault};
 use std::alloc::{AllocError, Global};
 
@@ -55,16 +54,9 @@ fn texts_of<S: Source>(
     ensures unread { IfErr result (IsUnread (S.outcomes pieces.now.source.now) (length (segments_of pieces.now.shape.now.partitions))) }
 {
     let name = name_of(&part)?;
-    match partition_again(alloc, pieces.source, pieces.shape, &name)? {
+    match texts_again(alloc, pieces.source, pieces.shape, &name)? {
         None => Ok(part),
-        Some(partition) => {
-            let asked = Asked {
-                wanted: Wanted::Texts,
-                topics: &[],
-            };
-            let told = told_in(alloc, asked, &partition)?;
-            Ok(told.part)
-        }
+        Some(told) => Ok(told.part),
     }
 }
 

@@ -42,7 +42,7 @@ goes_nowhere AtEnd inside Others ne = absurd (ne refl)
 goes_nowhere (NoBatch segment byte fault) inside Others ne = (refl, refl)
 goes_nowhere (Elsewhere found) inside Others ne = (refl, refl)
 
-begins_there : (sequenced : Bool) (segments : List Segment) (i : ℕ) (segment : Segment) (walk : Walk) (begin : ℕ) → (h : HasPassedAll sequenced segments i walk) → begin ≡ base_of segment → begin ≡ walk.next → base_of segment ≡ records_in h.front
+pub begins_there : (sequenced : Bool) (segments : List Segment) (i : ℕ) (segment : Segment) (walk : Walk) (begin : ℕ) → (h : HasPassedAll sequenced segments i walk) → begin ≡ base_of segment → begin ≡ walk.next → base_of segment ≡ records_in h.front
 begins_there sequenced segments i segment walk begin h base eq = sym base ∙ (eq ∙ h.passed.next)
 
 pub stops_inside : (sequenced : Bool) (segments : List Segment) (i : ℕ) (segment : Segment) (walk after : Walk) (begin : ℕ) (stop : Stop) → i < length segments → segment ≡ get_or segments i segment → (h : HasPassedAll sequenced segments i walk)

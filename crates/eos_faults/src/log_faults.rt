@@ -1,6 +1,8 @@
 //! All faults of a partition's log by itself, as one list.
 
 ghost use Rattle.std.specs.Prelude.{◌≡◌, IfOk, map};
+ghost use Rattle.eos_evidence.specs.declared.partition.Partition.{Partition as Log};
+ghost use Rattle.eos_sought.specs.Folded.{IsFolded};
 ghost use Rattle.eos_faults.specs.PartitionPlaces.{named};
 ghost use Rattle.eos_faults.specs.PartitionLists.{AreFaultsOf};
 
@@ -9,8 +11,8 @@ use crate::shown_by_log::Shown;
 use crate::stops::found_of;
 use bytes::Bytes;
 use eos_base::distinct_in_order;
-use eos_evidence::Partition;
 use eos_fold::is_checked;
+use eos_sought::Folded;
 use eos_touch::PartitionFault;
 use std::alloc::{AllocError, Global};
 
@@ -39,20 +41,20 @@ fn of_partition(
 /// several kinds stand at one batch, each of them, and of each producer id that is left open at the end its own. None where
 /// the log keeps its rules.
 ///
-/// Its segments are read here, one after the other. The work is a step for each batch by the number of producer ids, and a sort
-/// of the faults; the memory is by the number of producer ids and of faults.
+/// They are found by the folds of its segments. The work is a step for each batch by the number of producer ids, and a sort of
+/// the faults; the memory is by the number of producer ids and of faults.
 ///
 /// # Errors
 /// Only want of memory.
 pub fn faults_of_partition(
     alloc: Global,
-    partition: &Partition,
+    folded: &Folded,
 ) -> Result<Vec<PartitionFault>, AllocError>
-    ensures { IfOk result (λ faults. AreFaultsOf partition.now faults.items) }
+    ensures { (partition : Log) → IsFolded partition folded.now → IfOk result (λ faults. AreFaultsOf partition faults.items) }
 {
-    let end = &partition.end;
+    let end = &folded.end;
     let is_sequenced = is_checked(end.topic.as_slice());
-    let (walk, stop) = walk_along(alloc, is_sequenced, partition.segments.as_slice())?;
+    let (walk, stop) = walk_along(alloc, is_sequenced, folded.folds.as_slice())?;
     let shown = distinct_in_order(found_of(walk, stop, end.end)?);
     let faults = of_partition(alloc, &end.topic, end.partition, shown)?;
     Ok(faults)

@@ -1,6 +1,6 @@
 //! A walk along the front of a partition's log: what each batch shows after those before it.
 
-ghost use Rattle.std.specs.Prelude.{◌≡◌, ◌+◌, ◌<◌, ◌^◌, ◌++◌, ◌∷◌, [], ℕ, ℤ, Bool, List, Some, cond, map, OnOk, if◌then◌else◌};
+ghost use Rattle.std.specs.Prelude.{◌≡◌, ◌++◌, ◌∷◌, [], ℕ, ℤ, Bool, List, Some, cond, map, OnOk, if◌then◌else◌};
 ghost use Rattle.std.specs.List.{filter};
 ghost use Rattle.std.specs.Ordering.{int_cmp, is_eq};
 ghost use Rattle.std.specs.BTreeMap.{get};
@@ -114,12 +114,14 @@ impl Walk {
         }
     }
 
-    /// Passes a batch that goes on where those before it end.
+    /// Passes a batch that goes on where those before it end. An offset past 64 bits, which no log has, counts as want of memory.
     pub(crate) fn pass(&mut self, head: &BatchHead) -> Result<(), AllocError>
-        requires { head.now.offset + head.now.count < 2 ^ 64 }
         ensures { (sequenced : Bool) (front : List Batch) (b : Batch) (size : ℕ) → head.now ≡ head_of b size → offset_of b ≡ records_in front → HasPassed sequenced front self.old → OnOk result (HasPassed sequenced (front ++ b ∷ []) self.new) }
     {
-        self.next = head.offset + u64::from(head.count);
+        let Some(next) = head.offset.checked_add(u64::from(head.count)) else {
+            return Err(AllocError);
+        };
+        self.next = next;
         let Some((producer, touch)) = touch_of(head) else {
             return Ok(());
         };

@@ -21,7 +21,7 @@ use Rattle.eos_kept.specs.declared.kept_run.KeptRun.TheVariants.{Presence, Claim
 use Rattle.eos_kept.specs.declared.part.Told.{Told}
 use Rattle.eos_kept.specs.Kept.{KeptView}
 use Rattle.eos_kept.specs.KeptRuns.{IsKeptRun, wanted_by, front_of, HasClaims, AreKeptRun, IsWantedBy, HaveClaims}
-use Rattle.eos_kept.specs.steps.Held.{Asking, IsHeld, AreHeld}
+use Rattle.eos_kept.specs.Held.{Asking, IsHeld, AreHeld}
 use Rattle.eos_kept.specs.Parts.{IsTold}
 use Rattle.eos_kept.specs.steps.Made.{AreKept, IsMade}
 

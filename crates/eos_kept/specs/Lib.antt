@@ -1,5 +1,6 @@
 pub mod Sizes
 pub mod Kept
+pub mod Held
 pub mod Passing
 pub mod steps
 pub mod Runs

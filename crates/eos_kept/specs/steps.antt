@@ -7,4 +7,3 @@ pub mod Closes
 pub mod Counts
 pub mod Fronts
 pub mod Made
-pub mod Held

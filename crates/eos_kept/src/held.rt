@@ -3,7 +3,7 @@
 ghost use Rattle.std.specs.Prelude.{◌≤◌, ◌∷◌, [], ◌++◌, List, length, IfOk};
 ghost use Rattle.eos_evidence.specs.Evidence.{IsPartition};
 ghost use Rattle.eos_evidence.specs.declared.segment.Segment.{Segment};
-ghost use Rattle.eos_kept.specs.steps.Held.{Asking, AreHeld, IsHeld};
+ghost use Rattle.eos_kept.specs.Held.{Asking, AreHeld, IsHeld};
 ghost use Rattle.eos_kept.specs.Parts.{IsTold};
 
 use crate::segment::keep_bytes;
@@ -44,8 +44,11 @@ fn read_held(alloc: Global, asked: Asked<'_>, segment: &Segment) -> Result<KeptR
     }
 }
 
-/// The run with the next one behind it.
-fn longer(alloc: Global, run: Option<KeptRun>, next: KeptRun) -> Result<KeptRun, AllocError>
+/// What is kept of segments, and of the next one behind them.
+///
+/// # Errors
+/// Only want of memory.
+pub fn longer(alloc: Global, run: Option<KeptRun>, next: KeptRun) -> Result<KeptRun, AllocError>
     requires { (a : Asking) × (xs : List Segment) × (ys : List Segment) × AreHeld a xs run × IsHeld a ys next }
     ensures { (a : Asking) (xs ys : List Segment) → AreHeld a xs run → IsHeld a ys next → IfOk result (IsHeld a (xs ++ ys)) }
 {

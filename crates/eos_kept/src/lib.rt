@@ -37,7 +37,7 @@ pub use batches::{KeptBatch, KeptBatches, Look};
 pub use cursor::Cursor;
 pub use eos_fold::{DataHead, EndMark, Fault};
 pub use front::Front;
-pub use held::told_in;
+pub use held::{longer, told_in};
 pub use item::ItemRef;
 pub use items::Items;
 pub use kept_run::{Asked, KeptRun};

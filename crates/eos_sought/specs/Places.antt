@@ -2,7 +2,7 @@
 -- last record of the one before.
 -- Source: Kafka's documentation, "Log" (a segment is named by the offset of its first record) and Message Format, "Record
 -- Batch".
-use Rattle.std.specs.Prelude.{◌≡◌, ◌≢◌, ⊤, ◌⊎◌, ◌≤◌, ◌^◌, ℕ, ◌+◌, List, [], ◌∷◌, length, drop, filter, Ok}
+use Rattle.std.specs.Prelude.{◌≡◌, ◌≢◌, ⊤, ◌⊎◌, ◌≤◌, ℕ, ◌+◌, List, [], ◌∷◌, length, drop, filter, Ok}
 use Rattle.eos_batch.specs.declared.batch.Batch.{Batch}
 use Rattle.eos_batch.specs.Heads.{head_of}
 use Rattle.eos_batch.specs.Reading.{batch_at}
@@ -31,15 +31,6 @@ offset_after next (s ∷ ss) = offset_after (next + s.head.count) ss
 abbrev pub IsRun : List ℕ → ℕ → ℕ → List Standing → Type 0
 IsRun bytes at next [] = ⊤
 IsRun bytes at next (s ∷ ss) = (s.byte ≡ at) × (s.head.offset ≡ next) × IsReadAt bytes s × IsRun bytes (at + s.head.size) (next + s.head.count) ss
-
--- the batch that goes on at this byte and this offset
-pub record GoesOn (bytes : List ℕ) (at next : ℕ) (s : Standing) : Type 0 where
-  pub byte : s.byte ≡ at
-  pub offset : s.head.offset ≡ next
-  pub read : IsReadAt bytes s
-  pub some : 1 ≤ s.head.size
-  pub within : at + s.head.size ≤ length bytes
-  pub fits : next + s.head.count ≤ 2 ^ 63
 
 -- no batch that begins at this offset reads at this byte
 abbrev pub IsEnd : List ℕ → ℕ → ℕ → Type 0

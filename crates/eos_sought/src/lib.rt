@@ -26,5 +26,5 @@ pub use partition::{Placed, batches_of, folded_named, is_named};
 pub use reading::{id_of, is_same, state_of};
 pub use sought::{Epochs, Sought};
 pub use times::{time_of, time_of_number};
-pub use walk::{batches_in, next_standing};
+pub use walk::batches_in;
 pub use wanted::{Standing, Wanted};

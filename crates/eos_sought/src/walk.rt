@@ -1,35 +1,12 @@
 //! The batches of a segment.
 
-ghost use Rattle.std.specs.Prelude.{◌≡◌, ◌<◌, ◌+◌, ◌++◌, ◌∷◌, [], length, filter, IfOk, OnOk, MatchOption};
+ghost use Rattle.std.specs.Prelude.{◌≡◌, ◌+◌, ◌++◌, ◌∷◌, [], filter, IfOk, OnOk};
 ghost use Rattle.eos_sought.specs.Folded.{wanted_in};
 ghost use Rattle.eos_sought.specs.Wanted.{is_wanted};
-ghost use Rattle.eos_sought.specs.Places.{GoesOn, IsEnd};
 
 use crate::wanted::{Standing, Wanted};
-use bytes::Bytes;
-use eos_fold::front_head;
 use eos_fold_file::{FoldFile, FoldHead};
 use std::alloc::{AllocError, Global};
-
-/// The batch at this byte of a segment, where it begins at this offset; None where the segment's batches end there. The batch is
-/// read and tested, and only its head is kept.
-///
-/// # Errors
-/// Only want of memory.
-pub fn next_standing(
-    alloc: Global,
-    bytes: &Bytes,
-    at: usize,
-    next: u64,
-) -> Result<Option<Standing>, AllocError>
-    requires { at < length bytes.now }
-    ensures { IfOk result (λ found. MatchOption found (IsEnd bytes.now at next) (GoesOn bytes.now at next)) }
-{
-    match front_head(alloc, bytes, at, next, next)? {
-        Ok(head) => Ok(Some(Standing { byte: at, head })),
-        Err(_) => Ok(None),
-    }
-}
 
 fn push_wanted(
     found: &mut Vec<Standing>,

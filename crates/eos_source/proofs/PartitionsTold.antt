@@ -16,7 +16,7 @@ use Rattle.eos_source.specs.Said.{Said, Known}
 use Rattle.eos_source.specs.Shapes.{ArePieces}
 use Rattle.eos_source.specs.steps.Partitions.{IsToldOf}
 use Rattle.eos_kept.specs.KeptRuns.{AreKeptRun, IsWantedBy, HaveClaims}
-use Rattle.eos_kept.specs.steps.Held.{Asking}
+use Rattle.eos_kept.specs.Held.{Asking}
 use Rattle.eos_source.specs.steps.Runs.{asking, AreFrom, AreRead}
 use Rattle.eos_source.proofs.PiecesJoined.{from_none}
 use Rattle.eos_kept.proofs.PartsHeld.{are_of}

@@ -10,7 +10,7 @@ use Rattle.eos_evidence.specs.declared.application.App.{App}
 use Rattle.eos_evidence.specs.declared.segment.Segment.{Segment}
 use Rattle.eos_kept.specs.declared.kept_run.KeptRun.{KeptRun}
 use Rattle.eos_kept.specs.KeptRuns.{IsKeptRun, wanted_by, front_of, HasClaims}
-use Rattle.eos_kept.specs.steps.Held.{Asking}
+use Rattle.eos_kept.specs.Held.{Asking}
 use Rattle.eos_source.specs.Shapes.{ArePieces}
 use Rattle.eos_source.specs.Said.{Said, Known, IsAsKnown}
 use Rattle.eos_source.specs.steps.Runs.{asking, AreFrom, IsRead, AreRead, IsTaken, AreSlotsOf}

@@ -9,7 +9,7 @@ use Rattle.eos_fold_file.specs.Folds.{IsFoldOf}
 use Rattle.eos_fold_file.specs.Legal.{IsLegal}
 use Rattle.eos_kept.specs.declared.kept_run.KeptRun.{KeptRun}
 use Rattle.eos_kept.specs.KeptRuns.{IsKeptRun, wanted_by, HasClaims}
-use Rattle.eos_kept.specs.steps.Held.{Asking, IsAsked}
+use Rattle.eos_kept.specs.Held.{Asking, IsAsked}
 use Rattle.eos_source.specs.declared.source.Piece.TheVariants as pieces
 use Rattle.eos_kept.proofs.PartsHeld.{checked_so}
 use Rattle.eos_source.specs.Said.{Said, Log, Fold, Known, WillSay}

@@ -5,7 +5,7 @@ ghost use Rattle.std.specs.Vec.Iter.{into_iter_items};
 ghost use Rattle.eos_evidence.specs.declared.application.App.{App};
 ghost use Rattle.eos_evidence.specs.declared.segment.Segment.{Segment};
 ghost use Rattle.eos_source.specs.Said.{Said, Known};
-ghost use Rattle.eos_kept.specs.steps.Held.{Asking};
+ghost use Rattle.eos_kept.specs.Held.{Asking};
 ghost use Rattle.eos_source.specs.steps.Runs.{asking, IsRead, AreRead, AreSlotsOf, IsFirstRefused, ArePassed};
 
 use eos_evidence::Segment;

@@ -5,7 +5,7 @@ ghost use Rattle.eos_evidence.specs.declared.segment.Segment.{Segment};
 ghost use Rattle.eos_fold_file.specs.Folds.{IsFoldOf};
 ghost use Rattle.eos_fold_file.specs.Legal.{IsLegal};
 ghost use Rattle.eos_kept.specs.KeptRuns.{IsKeptRun};
-ghost use Rattle.eos_kept.specs.steps.Held.{IsAsked};
+ghost use Rattle.eos_kept.specs.Held.{IsAsked};
 ghost use Rattle.eos_source.specs.Said.{Said, known_by};
 ghost use Rattle.eos_source.specs.steps.Runs.{IsTaken};
 

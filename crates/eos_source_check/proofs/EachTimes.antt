@@ -16,6 +16,8 @@ use Rattle.eos_source_check.specs.Again.{IsLogAgain}
 use Rattle.eos_source_check.specs.Timed.{timed, timed_by, all_timed_by, AreTimesIn}
 use Rattle.eos_source_check.specs.Times.{begins_next, lies_in, some_lie_in, AreTimesOf, AreTimesNamed, first_at, AreTimesEach}
 use Rattle.eos_source_check.specs.steps.Each.{among, AreEachOf, AreEachAgain}
+use Rattle.eos_source_check.specs.steps.Timing.{AskedView, IsTimedAgain}
+use Rattle.eos_source_check.proofs.LogsAgain.{named_again}
 use Rattle.eos_source_check.proofs.TimesAgain.{Passed, none_passed, one_passed, all_passed, IsAhead, named, all_ahead}
 
 -- ---- the first time at an offset
@@ -141,8 +143,15 @@ module _ (known : Known) (name : Segment) (next : Option ℕ) (offsets lying : L
   by_lying segment times again read o here false isnt =
       ([], inr (inr (lies_alone o isnt), refl), ap (first_at o) read.are ∙ none_in_batches segment.bytes o lying (which o here ∙ isnt) read.all)
 
-  pub each_of_log : (segment : Segment) (times : List (ℕ × ℤ)) → IsLogAgain known name segment → AreTimesIn segment lying times → AreEachOf known name next offsets times
+  each_of_log : (segment : Segment) (times : List (ℕ × ℤ)) → IsLogAgain known name segment → AreTimesIn segment lying times → AreEachOf known name next offsets times
   each_of_log segment times again read = λ o here. by_lying segment times again read o here (lies_in (base_of name) next o) refl
+
+  -- of a log that was read for them
+  pub each_of_bytes : (asked : AskedView) (times : List (ℕ × ℤ)) → asked ≡ record { begin = base; offsets = lying } → IsTimedAgain known asked times → AreEachOf known name next offsets times
+  each_of_bytes asked times is t =
+      let u = subst (λ (x : AskedView). IsTimedAgain known x times) is t in
+      let s : Segment = record { topic = name.topic; partition = name.partition; base = name.base; bytes = u.bytes } in
+      each_of_log s times (named_again known name u.bytes s u.log refl refl refl refl) (u.are s (sym at) refl)
 
 -- ---- of a partition
 

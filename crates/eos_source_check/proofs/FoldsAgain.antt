@@ -103,7 +103,7 @@ module _ (e : EvidenceParts) (shapes : List Partition) (name : PartitionName) (p
   pieces : first ≡ first_of shapes place
   pieces = subst (λ (ps : List Partition). first ≡ first_of ps place) (sym of) found.pieces
 
-  stands : p ≡ get_or shapes place p → slice_get e.partitions place ≡ Some p
+  pub stands : p ≡ get_or shapes place p → slice_get e.partitions place ≡ Some p
   stands is = subst (λ (ps : List Partition). slice_get ps place ≡ Some p) of (slice_get_read shapes (length shapes) place p refl inside is)
 
   pub few : IsEvidence e → p ≡ get_or shapes place p → first + length p.segments ≤ 65536

@@ -12,6 +12,7 @@ pub mod FaultsSame
 pub mod FirstFound
 pub mod LogsAgain
 pub mod FoldsAgain
+pub mod TextsAgain
 pub mod PickedBatches
 pub mod PicksTold
 pub mod PassedAgain
@@ -22,7 +23,7 @@ pub mod Among
 pub mod KeptNotes
 pub mod KeptTallies
 pub mod TimesAgain
-pub mod TimedWalks
+pub mod TimedBytes
 pub mod RefusalsTold
 pub mod RisingTimes
 pub mod EachTimes

@@ -1,8 +1,7 @@
 -- Logs that are read again, one after the other.
-use Rattle.std.proofs.Common.{◌≡◌, ◌≤◌, ◌<◌, ◌^◌, ℕ, suc, ◌+◌, List, [], ◌∷◌, ◌++◌, length, take, get_or, Option, Some, None, refl, sym, ap, subst, ◌∙◌, append-nil, arith}
+use Rattle.std.proofs.Common.{◌≡◌, ◌≤◌, ◌^◌, ℕ, suc, ◌+◌, List, [], ◌∷◌, ◌++◌, length, Option, Some, None, refl, sym, ap, subst, ◌∙◌, append-nil, arith}
 use Rattle.std.specs.Prelude.{IfSome}
 use Rattle.std.specs.Io.KnownBytes.{Consumes, IsAtEnd}
-use Rattle.std.proofs.lemmas.List.{take_more, take_all, length-take-le}
 use Rattle.eos_evidence.specs.declared.segment.Segment.{Segment}
 use Rattle.eos_source.specs.declared.source.Piece.TheVariants as pieces
 use Rattle.eos_source.specs.Said.{Said, Log, Fold, Known, IsAsKnown, WillSay}
@@ -57,16 +56,3 @@ named_again known name bytes segment h topic partition base same = record {
   };
   as_known = subst (λ (bs : List ℕ). IsAsKnown known (Log bs)) (sym same) h.as_known;
 }
-
--- so many names were passed
-pub next_name : (known : ℕ → Known) (piece : ℕ) (names : List Segment) (i : ℕ) (name segment : Segment) (segments all : List Segment) → i < length names → name ≡ get_or names i name
-    → AreLogsAgain known piece (take i names) segments → all ≡ segments ++ segment ∷ [] → IsLogAgain (known (piece + i)) name segment → AreLogsAgain known piece (take (i + 1) names) all
-next_name known piece names i name segment segments all lt is h e one =
-    let size : length (take i names) ≡ i = length-take-le i names (omega (arith, lt)) in
-    let more : take (i + 1) names ≡ take i names ++ name ∷ [] = take_more names i name lt ∙ ap (λ (n : Segment). take i names ++ n ∷ []) (sym is) in
-    let here : IsLogAgain (known (piece + length (take i names))) name segment = subst (λ (n : ℕ). IsLogAgain (known (piece + n)) name segment) (sym size) one in
-    subst (λ (ns : List Segment). AreLogsAgain known piece ns all) (sym more)
-    (subst (AreLogsAgain known piece (take i names ++ name ∷ [])) (sym e) (one_more known piece (take i names) segments name segment h here))
-
-pub all_names : (known : ℕ → Known) (piece : ℕ) (names segments : List Segment) (i : ℕ) → length names ≤ i → AreLogsAgain known piece (take i names) segments → AreLogsAgain known piece names segments
-all_names known piece names segments i le h = subst (λ (ns : List Segment). AreLogsAgain known piece ns segments) (take_all i names le) h

@@ -107,10 +107,15 @@ all_mixed all fed [] (suc i) le = refl
 all_mixed all fed (w ∷ ws) zero le = absurd (omega (arith, le))
 all_mixed all fed (w ∷ ws) (suc i) le = ap (λ (l : List (Option (Option Batch))). told_at all w ∷ l) (all_mixed all fed ws i (omega (arith, le)))
 
-there_is : (wanted : List (Option ℕ)) (i : ℕ) → i < length wanted → (byte : Option ℕ) × (slice_get wanted i ≡ Some byte)
+pub there_is : {A : Type 0} (xs : List A) (i : ℕ) → i < length xs → (x : A) × (slice_get xs i ≡ Some x)
 there_is [] i lt = absurd (omega (arith, lt))
-there_is (w ∷ ws) zero lt = (w, refl)
-there_is (w ∷ ws) (suc i) lt = there_is ws i (omega (arith, lt))
+there_is (x ∷ xs) zero lt = (x, refl)
+there_is (x ∷ xs) (suc i) lt = there_is xs i (omega (arith, lt))
+
+pub same_read : (xs : List (Option (Option Batch))) (n : ℕ) (x y : Option (Option Batch)) → x ≡ get_or xs n x → slice_get xs n ≡ Some y → x ≡ y
+same_read [] n x y is at = absurd cc
+same_read (z ∷ zs) zero x y is at = is ∙ cc
+same_read (z ∷ zs) (suc n) x y is at = same_read zs n x y is at
 
 has_next : (wanted : List (Option ℕ)) (i : ℕ) (byte one : Option ℕ) → slice_get wanted i ≡ Some byte → Has (take (suc i) wanted) one → Has (take i wanted) one ⊎ (byte ≡ one)
 has_next [] i byte one at has = absurd cc
@@ -163,11 +168,6 @@ one_picked i passed taken one less buffer wanted old now after asked was told lt
         | inr same ↦ less_ahead all (passed + less) (passed + one) x (omega (arith, b)) (subst (IsAheadIf all (passed + one)) same one_is.1)
       ],
     )
-  where
-    same_read : (xs : List (Option (Option Batch))) (n : ℕ) (x y : Option (Option Batch)) → x ≡ get_or xs n x → slice_get xs n ≡ Some y → x ≡ y
-    same_read [] n x y is at = absurd cc
-    same_read (z ∷ zs) zero x y is at = is ∙ cc
-    same_read (z ∷ zs) (suc n) x y is at = same_read zs n x y is at
 
 pub all_picked : (i passed taken : ℕ) (buffer : List ℕ) (wanted : List (Option ℕ)) (old new : List (Option (Option Batch))) → length new ≤ i → ArePickedSoFar i passed buffer wanted old new taken → ArePickedAt passed buffer wanted old new taken
 all_picked i passed taken buffer wanted old new done so = λ fed more here are ahead.

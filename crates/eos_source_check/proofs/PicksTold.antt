@@ -1,6 +1,7 @@
 -- Batches at some places of the segments of a partition, one segment after the other.
 use Rattle.std.proofs.Common.{◌≡◌, ◌∙◌, ◌<◌, ◌≤◌, ℕ, zero, suc, ◌+◌, ℤ, List, [], ◌∷◌, ◌++◌, length, map, take, drop, get_or, Bool, true, false, Option, Some, None, Result, Ok, Err, refl, sym, ap, subst, arith, drop-drop, ltb-false}
 use Rattle.std.specs.Prelude.{slice_get, slice_set, nat_lt, if◌then◌else◌}
+use Rattle.std.specs.Option.{option_flatten}
 use Rattle.std.specs.Ordering.{int_eq}
 use Rattle.std.proofs.lemmas.List.{take_more, take_all, length-take-le, length-map}
 use Rattle.eos_batch.specs.Reading.{batch_at}
@@ -17,9 +18,9 @@ use Rattle.eos_source_check.specs.Again.{IsLogAgain, AreLogsAgain, IsNamedAgain}
 use Rattle.eos_source_check.specs.Picked.{found_of, found_in, ArePickedNamed}
 use Rattle.eos_source_check.specs.declared.picks.Picked.{Picked}
 use Rattle.eos_source_check.specs.steps.Picking.{told_of, told_at}
-use Rattle.eos_source_check.specs.steps.PicksAgain.{byte_in, flat, found_or, found_front, AreOfLog, ArePicksAgain, IsPickedAgain}
+use Rattle.eos_source_check.specs.steps.PicksAgain.{byte_in, found_or, found_front, AreOfLog, ArePicksAgain, IsPickedAgain}
 use Rattle.eos_source_check.proofs.LogsAgain.{named_again, one_more}
-use Rattle.eos_source_check.proofs.PickedBatches.{none_past}
+use Rattle.eos_source_check.proofs.PickedBatches.{none_past, length_set, there_is, same_read}
 
 -- ---- what a segment tells is put
 
@@ -46,16 +47,6 @@ get_front (suc i) (x ∷ ws) [] old w t o a b c = absurd cc
 get_front (suc i) (x ∷ ws) (y ∷ ts) [] w t o a b c = absurd cc
 get_front (suc i) (x ∷ ws) (y ∷ ts) (z ∷ os) w t o a b c = get_front i ws ts os w t o a b c
 
-there_is : {A : Type 0} (xs : List A) (i : ℕ) → i < length xs → (x : A) × (slice_get xs i ≡ Some x)
-there_is [] i lt = absurd (omega (arith, lt))
-there_is (x ∷ xs) zero lt = (x, refl)
-there_is (x ∷ xs) (suc i) lt = there_is xs i (omega (arith, lt))
-
-same_read : (xs : List (Option (Option Batch))) (n : ℕ) (x y : Option (Option Batch)) → x ≡ get_or xs n x → slice_get xs n ≡ Some y → x ≡ y
-same_read [] n x y is at = absurd cc
-same_read (z ∷ zs) zero x y is at = is ∙ cc
-same_read (z ∷ zs) (suc n) x y is at = same_read zs n x y is at
-
 by_drop : (xs ys : List (Option (Option Batch))) (i : ℕ) (y : Option (Option Batch)) → drop i xs ≡ drop i ys → slice_get ys i ≡ Some y → slice_get xs i ≡ Some y
 by_drop xs ys i y same at = first_of xs i ∙ (ap (λ (l : List (Option (Option Batch))). slice_get l 0) same ∙ (sym (first_of ys i) ∙ at))
   where
@@ -64,11 +55,6 @@ by_drop xs ys i y same at = first_of xs i ∙ (ap (λ (l : List (Option (Option 
     first_of [] (suc n) = refl
     first_of (z ∷ zs) zero = refl
     first_of (z ∷ zs) (suc n) = first_of zs n
-
-pub length_put : (xs : List (Option (Option Batch))) (i : ℕ) (x : Option (Option Batch)) → length (slice_set xs i x) ≡ length xs
-length_put [] i x = refl
-length_put (y ∷ ys) zero x = refl
-length_put (y ∷ ys) (suc i) x = ap suc (length_put ys i x)
 
 drop_put : (xs : List (Option (Option Batch))) (i : ℕ) (x : Option (Option Batch)) → drop (suc i) (slice_set xs i x) ≡ drop (suc i) xs
 drop_put [] i x = refl
@@ -96,7 +82,7 @@ put_more i wanted told old now left byte was by one lt was_is by_is byte_is m n 
 
 -- ---- what was put
 
-flat_of : (a : Result (Batch × ℕ) BatchFault) → flat (told_of a) ≡ batch_read a
+flat_of : (a : Result (Batch × ℕ) BatchFault) → option_flatten (told_of a) ≡ batch_read a
 flat_of (Ok read) = refl
 flat_of (Err faults.Truncated) = refl
 flat_of (Err faults.Length) = refl
@@ -112,11 +98,11 @@ flat_of (Err faults.Control) = refl
 flat_of (Err faults.Producer) = refl
 flat_of (Err faults.OutOfMemory) = refl
 
-flat_if : (bytes : List ℕ) (byte : ℕ) (b : Bool) → nat_lt byte (length bytes) ≡ b → flat (told_at bytes (Some byte)) ≡ (if b then batch_read (batch_at (drop byte bytes)) else None)
+flat_if : (bytes : List ℕ) (byte : ℕ) (b : Bool) → nat_lt byte (length bytes) ≡ b → option_flatten (told_at bytes (Some byte)) ≡ (if b then batch_read (batch_at (drop byte bytes)) else None)
 flat_if bytes byte true lt = flat_of (batch_at (drop byte bytes))
-flat_if bytes byte false lt = ap flat (none_past bytes byte (ltb-false byte (length bytes) lt))
+flat_if bytes byte false lt = ap option_flatten (none_past bytes byte (ltb-false byte (length bytes) lt))
 
-flat_told : (bytes : List ℕ) (byte : ℕ) → flat (told_at bytes (Some byte)) ≡ batch_in_bytes bytes byte
+flat_told : (bytes : List ℕ) (byte : ℕ) → option_flatten (told_at bytes (Some byte)) ≡ batch_in_bytes bytes byte
 flat_told bytes byte = flat_if bytes byte (nat_lt byte (length bytes)) refl
 
 named_if : (base : ℤ) (s t : Segment) (b : Bool) (rest longer : Option Segment) → (rest ≡ None → longer ≡ (if int_eq s.base base then Some s else None)) → (if b then Some t else rest) ≡ None → (if b then Some t else longer) ≡ (if int_eq s.base base then Some s else None)

@@ -108,9 +108,9 @@ held_alone bytes s (x ∷ xs) = go (is_wanted (Holding x) s.head) refl (held_alo
         ap (λ (b : Bool). all_timed_by bytes (cond b (x ∷ held) held) s) e
         ∙ (later ∙ sym (ap (λ (b : Bool). (if b then timed x (time_in_bytes bytes s.byte (x - s.head.offset)) else []) ++ all_timed_by bytes xs s) e))
 
-held_by : (bytes : List ℕ) (s : Standing) (offsets held : List ℕ) (count : ℕ) → count ≡ s.head.count → held ≡ filter (lies_in s.head.offset (Some (s.head.offset + count))) offsets → all_timed_by bytes held s ≡ all_timed_by bytes offsets s
-held_by bytes s offsets held count counted is =
-    ap (λ (xs : List ℕ). all_timed_by bytes xs s) (is ∙ ap (λ (n : ℕ). filter (lies_in s.head.offset (Some (s.head.offset + n))) offsets) counted) ∙ held_alone bytes s offsets
+held_by : (bytes : List ℕ) (s : Standing) (offsets held : List ℕ) (behind : ℕ) → behind ≡ s.head.offset + s.head.count → held ≡ filter (lies_in s.head.offset (Some behind)) offsets → all_timed_by bytes held s ≡ all_timed_by bytes offsets s
+held_by bytes s offsets held behind ends is =
+    ap (λ (xs : List ℕ). all_timed_by bytes xs s) (is ∙ ap (λ (n : ℕ). filter (lies_in s.head.offset (Some n)) offsets) ends) ∙ held_alone bytes s offsets
 
 -- ---- the batch, decoded once
 
@@ -139,11 +139,21 @@ undecoded bytes s fault (x ∷ xs) lt read =
     let one : timed_by bytes s x ≡ [] = timed_so bytes s x (Err fault) lt read ∙ nothing (is_wanted (Holding x) s.head) in
     ap (λ (ys : List (ℕ × ℤ)). ys ++ all_timed_by bytes xs s) one ∙ undecoded bytes s fault xs lt read
 
+outside : (bytes : List ℕ) (s : Standing) (xs : List ℕ) → length bytes ≤ s.byte → all_timed_by bytes xs s ≡ []
+outside bytes s [] le = refl
+outside bytes s (x ∷ xs) le =
+    let shut : nat_lt s.byte (length bytes) ≡ false = le-ltb s.byte (length bytes) le in
+    let one : timed_by bytes s x ≡ [] = ap (λ (b : Bool). by_read s x b (batch_at (drop s.byte bytes))) shut ∙ nothing (is_wanted (Holding x) s.head) in
+    ap (λ (ys : List (ℕ × ℤ)). ys ++ all_timed_by bytes xs s) one ∙ outside bytes s xs le
+
 -- ---- pushed
 
-module _ (bytes : List ℕ) (s : Standing) (offsets held : List ℕ) (count : ℕ) (counted : count ≡ s.head.count) (are : held ≡ filter (lies_in s.head.offset (Some (s.head.offset + count))) offsets) where
+module _ (bytes : List ℕ) (s : Standing) (offsets held : List ℕ) (behind : ℕ) (ends : behind ≡ s.head.offset + s.head.count) (are : held ≡ filter (lies_in s.head.offset (Some behind)) offsets) where
   same : all_timed_by bytes held s ≡ all_timed_by bytes offsets s
-  same = held_by bytes s offsets held count counted are
+  same = held_by bytes s offsets held behind ends are
+
+  pub pushed_outside : (times : List (ℕ × ℤ)) → length bytes ≤ s.byte → times ≡ times ++ all_timed_by bytes offsets s
+  pushed_outside times le = sym (ap (λ (ys : List (ℕ × ℤ)). times ++ ys) (outside bytes s offsets le) ∙ append-nil times)
 
   pub pushed_none : (times : List (ℕ × ℤ)) → held ≡ [] → times ≡ times ++ all_timed_by bytes offsets s
   pushed_none times none =

@@ -3,6 +3,9 @@ use Rattle.std.specs.Prelude.{◌≡◌, ℕ, suc, ◌+◌, List, [], ◌∷◌,
 use Rattle.eos_base.specs.declared.partition_name.PartitionName.{PartitionName}
 use Rattle.eos_evidence.specs.declared.partition.Partition.{Partition}
 use Rattle.eos_evidence.specs.declared.segment.Segment.{Segment}
+use Rattle.eos_kept.specs.declared.part.Told.{Told}
+use Rattle.eos_kept.specs.Parts.{IsTold}
+use Rattle.eos_reading.specs.declared.wanted.Wanted.TheVariants.{Texts}
 use Rattle.eos_sought.specs.declared.folded.Folded.{Folded}
 use Rattle.eos_sought.specs.Folded.{IsFolded}
 use Rattle.eos_sought.specs.Partitions.{is_named, partition_named}
@@ -65,6 +68,21 @@ IsRead known shapes p = IsNamedAgain known 0 shapes (name_of p) (Some p)
 -- these partitions have it as it was read again
 abbrev pub IsThere : List Partition → Partition → Type 0
 IsThere ps p = partition_named (name_of p) ps ≡ Some p
+
+-- ---- its log, with the keys, values and claims of its records
+
+-- it is that of this partition, or there is none
+abbrev pub AreTextsOfRead : Option Partition → Option Told → Type 0
+AreTextsOfRead None None = ⊤
+AreTextsOfRead None (Some told) = ⊥
+AreTextsOfRead (Some p) None = ⊥
+AreTextsOfRead (Some p) (Some told) = IsTold Texts p.end p.segments told
+
+-- the first partition of this name was read again, and this is its log
+pub record AreTextsNamed (known : ℕ → Known) (shapes : List Partition) (name : PartitionName) (told : Option Told) : Type 0 where
+  pub read : Option Partition
+  pub again : IsNamedAgain known 0 shapes name read
+  pub are : AreTextsOfRead read told
 
 -- ---- the folds of its segments
 

@@ -1,18 +1,17 @@
-//! A partition that is read again, whole or for the folds of its segments.
+//! A partition that is read again for the folds of its segments.
 
 ghost use Rattle.std.specs.Prelude.{◌≡◌, ◌↔◌, ◌+◌, ◌≤◌, ℕ, true, None, Some, length, option_map, slice_get, IfOk, IfErr, IfNone, IfSome};
 ghost use Rattle.eos_evidence.specs.Evidence.{segments_of};
 ghost use Rattle.eos_source.specs.Said.{Known, known_by};
-ghost use Rattle.eos_source_check.specs.Again.{IsAgain, IsNamedAgain, AreFoldsNamed};
+ghost use Rattle.eos_source_check.specs.Again.{IsNamedAgain, AreFoldsNamed};
 ghost use Rattle.eos_source_check.specs.Refusals.{IsNoLog, IsUnread};
 ghost use Rattle.eos_source_check.specs.steps.Earned.{IsOfPiece, IsOfPieces, IsOfPartition};
-ghost use Rattle.eos_source_check.specs.steps.FaultsAgain.{IsLogOf, HasFaultsAgain, HasFaultsIfFound, BeginsIfFound};
+ghost use Rattle.eos_source_check.specs.steps.FaultsAgain.{HasFaultsAgain, HasFaultsIfFound, BeginsIfFound};
 ghost use Rattle.eos_source_check.specs.steps.FoldsAgain.{IsReaderOf, IsFoldAgain, IsFoldedAgain, IsFoundAt};
 
 use crate::fault::Unlisted;
-use bytes::Bytes;
-use eos_base::{Listed, PartitionName};
-use eos_evidence::{Evidence, Partition, Segment, read_segment};
+use eos_base::PartitionName;
+use eos_evidence::{Evidence, Partition, Segment};
 use eos_faults::faults_of_partition;
 use eos_fold_file::{FoldFile, fold_of};
 use eos_reading::Wanted;
@@ -38,22 +37,6 @@ pub(crate) fn open_log<S: Source>(
     }
 }
 
-/// The bytes of the piece of this number, if it is a log.
-fn bytes_of<S: Source>(alloc: Global, source: &S, piece: u64) -> Result<Bytes, Unlisted<S::Fault>>
-    ensures ok { IfOk result (IsLogOf (known_by (S.said source.now) (S.is_log source.now) piece)) }
-    ensures fold { IfErr result (λ why. IsNoLog (S.is_log source.now) why) }
-    ensures earned { IfErr result (IsOfPiece (S.outcomes source.now) piece) }
-{
-    let mut reader = open_log(alloc, source, piece)?;
-    match read_segment(alloc, &mut reader) {
-        Ok(bytes) => Ok(bytes),
-        Err(why) => {
-            let fault = source.refusal(alloc, piece, &mut reader, why);
-            Err(Unlisted::Refused(fault))
-        }
-    }
-}
-
 /// The fold of the piece of this number and name, if it is a log: of each batch the head. No more of its bytes is held than a chunk.
 fn fold_of_log<S: Source>(
     alloc: Global,
@@ -75,37 +58,7 @@ fn fold_of_log<S: Source>(
     }
 }
 
-/// The partition of this shape, whose first segment is the piece of this number, as it is read now.
-fn read_again<S: Source>(
-    alloc: Global,
-    source: &S,
-    shape: &Partition,
-    first: u64,
-) -> Result<Partition, Unlisted<S::Fault>>
-    requires { first + length shape.now.segments ≤ 65536 }
-    ensures ok { IfOk result (IsAgain (known_by (S.said source.now) (S.is_log source.now)) first shape.now) }
-    ensures fold { IfErr result (λ why. IsNoLog (S.is_log source.now) why) }
-    ensures earned { IfErr result (IsOfPieces (S.outcomes source.now) first (length shape.now.segments)) }
-{
-    let names = shape.segments.as_slice();
-    let mut segments = Vec::new(alloc);
-    for i in 0..names.len() {
-        let name = &names[i];
-        let bytes = bytes_of(alloc, source, first + i as u64)?;
-        segments.push(Segment {
-            topic: name.topic.clone()?,
-            partition: name.partition,
-            base: name.base,
-            bytes,
-        })?;
-    }
-    Ok(Partition {
-        end: shape.end.clone()?,
-        segments: Listed::new(segments),
-    })
-}
-
-/// The same of the folds of its segments.
+/// The folds of the segments of a partition of this shape, whose first one is the piece of this number, as it is read now.
 fn fold_again<S: Source>(
     alloc: Global,
     source: &S,
@@ -144,28 +97,6 @@ pub(crate) fn index_named(shape: &Evidence, name: &PartitionName) -> Option<(usi
         first += partition.segments.len() as u64;
     }
     None
-}
-
-/// The partition of this name, whole, as it is read now; none where the evidence of this shape has none. Its segments are read one after
-/// the other.
-///
-/// # Errors
-/// A segment isn't there any more, is a fold, or can't be read; or want of memory.
-pub fn partition_again<S: Source>(
-    alloc: Global,
-    source: &S,
-    shape: &Evidence,
-    name: &PartitionName,
-) -> Result<Option<Partition>, Unlisted<S::Fault>>
-    ensures read { IfOk result (IsNamedAgain (known_by (S.said source.now) (S.is_log source.now)) 0 shape.now.partitions name.now) }
-    ensures fold { IfErr result (λ why. IsNoLog (S.is_log source.now) why) }
-    ensures unread { IfErr result (IsUnread (S.outcomes source.now) (length (segments_of shape.now.partitions))) }
-{
-    let Some((index, first)) = index_named(shape, name) else {
-        return Ok(None);
-    };
-    let read = read_again(alloc, source, &shape.partitions()[index], first)?;
-    Ok(Some(read))
 }
 
 /// The partition of this name by the folds of its segments, as they are read now; none where the evidence of this shape has none. They are
@@ -214,8 +145,8 @@ fn faults_again<S: Source>(
     ensures fold { IfErr result (λ why. IsNoLog (S.is_log source.now) why) }
     ensures earned { IfErr result (IsOfPartition (known_by (S.said source.now) (S.is_log source.now)) (S.outcomes source.now) first shape.now (Some (Some fault.now))) }
 {
-    let partition = read_again(alloc, source, shape, first)?;
-    let faults = faults_of_partition(alloc, &partition)?;
+    let folded = fold_again(alloc, source, shape, first)?;
+    let faults = faults_of_partition(alloc, &folded)?;
     if begins_with(faults.as_slice(), fault) {
         Ok(faults)
     } else {

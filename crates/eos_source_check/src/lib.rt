@@ -26,9 +26,11 @@ mod picks;
 mod pieces;
 mod refused;
 mod rising;
+mod texts;
 mod times;
+mod timing;
 
-pub use again::{folds_again, partition_again};
+pub use again::folds_again;
 pub use fault::Unlisted;
 pub use judged::{Judged, Noted, judge_noted, judge_source};
 pub use later::later_faults;
@@ -37,4 +39,5 @@ pub use noting::By;
 pub use picks::{Picked, batches_again};
 pub use pieces::Pieces;
 pub use refused::refusal_of;
+pub use texts::texts_again;
 pub use times::times_each;

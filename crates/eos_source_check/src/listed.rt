@@ -61,8 +61,8 @@ fn take_partitions<T: FaultSink>(
 /// are of the partitions, and each one that has is read again from the source: it is true of an evidence that has these partitions as
 /// they were read again. Since a fault of a phase counts only where none of the phases before stands, they are of one phase.
 ///
-/// Beside what is kept, memory is that of one such partition, whole, or of the faults of a phase, but for those of outputs: of these
-/// all claims of one application are put in order.
+/// Beside what is kept, memory is that of the folds of one such partition, or of the faults of a phase, but for those of outputs: of
+/// these all claims of one application are put in order.
 ///
 /// # Errors
 /// Of a partition that is read again: a piece that isn't there or is a fold, or that its least fault is another than the one that was

@@ -1,18 +1,16 @@
-//! Offsets that rise, and the times of a segment's records at them. Each batch that holds one of them is decoded once, and which of them it
-//! holds is found by halving, so the work is that of a walk over the segment and a step for each of them.
+//! Offsets that rise, and the times of a batch's records at them. A batch that holds one of them is decoded once, and which of them it holds is
+//! found by halving.
 
 ghost use Rattle.std.specs.Prelude.{◌≡◌, [], true, ◌+◌, ◌^◌, ◌<◌, ◌≤◌, ◌++◌, length, take, drop, nat_lt, nat_le, slice_get, slice_index, IfOk, OnOk};
 ghost use Rattle.std.specs.List.{filter, flat_map};
-ghost use Rattle.eos_source_check.specs.Timed.{all_timed_by, AreTimesIn};
+ghost use Rattle.eos_source_check.specs.Timed.{all_timed_by};
 ghost use Rattle.eos_source_check.specs.Times.{lies_in};
 ghost use Rattle.eos_source_check.specs.steps.Rising.{timed_of};
 
 use bytes::Bytes;
 use eos_base::Sorted;
 use eos_batch::{Batch, next_batch};
-use eos_evidence::Segment;
-use eos_fold::begin_of;
-use eos_sought::{Standing, Wanted, next_standing, time_of_number};
+use eos_sought::{Standing, Wanted, time_of_number};
 use std::alloc::{AllocError, Global};
 use std::marker::Model;
 
@@ -31,6 +29,40 @@ impl<'a> Model for Rising<'a> {
     ghost view = { λ r. r.offsets.now };
 
     ghost invariant = { λ r. IsNonDecreasing r.offsets.now };
+}
+
+/// Some of the offsets, and the name of the segment of which they are asked.
+#[derive(Drop)]
+pub(crate) struct Asked {
+    begin: u64,
+    offsets: Vec<u64>,
+}
+
+impl Model for Asked {
+    ghost use Rattle.std.specs.List.Sorted.{IsNonDecreasing};
+    ghost use Rattle.eos_source_check.specs.steps.Timing.{AskedView};
+
+    ghost Value = { AskedView };
+
+    ghost view = { λ a. record { begin = a.begin; offsets = a.offsets.items } };
+
+    ghost invariant = { λ a. IsNonDecreasing a.offsets.items };
+}
+
+impl Asked {
+    pub(crate) fn begin(&self) -> u64
+        ensures { result ≡ self.now.begin }
+    {
+        self.begin
+    }
+
+    pub(crate) fn offsets(&self) -> Rising<'_>
+        ensures { result ≡ self.now.offsets }
+    {
+        Rising {
+            offsets: self.offsets.as_slice(),
+        }
+    }
 }
 
 fn is_below(offsets: &[u64], at: usize, bound: u64) -> bool
@@ -54,6 +86,15 @@ impl<'a> Rising<'a> {
         ensures { result ≡ true → self.now ≡ [] }
     {
         self.offsets.is_empty()
+    }
+
+    /// They are asked of a segment of this name.
+    pub(crate) fn asked(&self, alloc: Global, begin: u64) -> Result<Asked, AllocError>
+        ensures { IfOk result (λ asked. asked ≡ record { begin = begin; offsets = self.now }) }
+    {
+        let mut offsets = Vec::new(alloc);
+        offsets.extend_from_slice(self.offsets)?;
+        Ok(Asked { begin, offsets })
     }
 
     /// How many of them are below this one.
@@ -142,49 +183,29 @@ fn push_all_timed(
     Ok(())
 }
 
-/// Adds of these offsets those that the batch holds, with their times.
-#[tactic(auto, using(crate::proofs::RisingTimes::pushed_none, crate::proofs::RisingTimes::pushed_unread))]
-fn push_held(
+/// Adds of these offsets those that the batch holds, with their times. An offset past 64 bits counts as want of memory.
+pub(crate) fn push_held(
     alloc: Global,
     times: &mut Vec<(u64, i64)>,
     bytes: &Bytes,
     standing: Standing,
     offsets: &Rising<'_>,
 ) -> Result<(), AllocError>
-    requires fits { standing.head.offset + standing.head.count ≤ 2 ^ 63 }
-    requires inside { standing.byte < length bytes.now }
     ensures { OnOk result (times.new.items ≡ times.old.items ++ all_timed_by bytes.now offsets.now standing) }
 {
-    let behind = standing.head.offset + u64::from(standing.head.count);
-    let held = offsets.between(standing.head.offset, Some(behind));
+    let head = &standing.head;
+    let Some(behind) = head.offset.checked_add(u64::from(head.count)) else {
+        return Err(AllocError);
+    };
+    let held = offsets.between(head.offset, Some(behind));
     if held.is_empty() {
+        return Ok(());
+    }
+    if standing.byte >= bytes.len() {
         return Ok(());
     }
     match next_batch(alloc, bytes, standing.byte)? {
         Ok((batch, _size)) => push_all_timed(times, &batch, standing, &held),
         Err(_) => Ok(()),
     }
-}
-
-/// The times of the records of a segment that stand at these offsets.
-pub(crate) fn times_in(
-    alloc: Global,
-    segment: &Segment,
-    offsets: &Rising<'_>,
-) -> Result<Vec<(u64, i64)>, AllocError>
-    ensures { IfOk result (λ times. AreTimesIn segment.now offsets.now times.items) }
-{
-    let bytes = &segment.bytes;
-    let mut times = Vec::new(alloc);
-    let mut at = 0;
-    let mut next = begin_of(segment);
-    while at < bytes.len() {
-        let Some(standing) = next_standing(alloc, bytes, at, next)? else {
-            return Ok(times);
-        };
-        push_held(alloc, &mut times, bytes, standing, offsets)?;
-        at += standing.head.size;
-        next += u64::from(standing.head.count);
-    }
-    Ok(times)
 }

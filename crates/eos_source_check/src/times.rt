@@ -3,19 +3,18 @@
 
 ghost use Rattle.std.specs.Prelude.{◌≡◌, ◌<◌, ◌+◌, ◌≤◌, false, length, drop, Some, IfOk, IfErr, MatchOption};
 ghost use Rattle.eos_evidence.specs.Evidence.{segments_of};
-ghost use Rattle.eos_source.specs.Said.{Known, known_by};
-ghost use Rattle.eos_source_check.specs.Again.{IsLogAgain};
+ghost use Rattle.eos_source.specs.Said.{known_by};
 ghost use Rattle.eos_source_check.specs.Refusals.{IsRefusedFor, IsRefusedAgain};
 ghost use Rattle.eos_source_check.specs.Times.{begins_next, AreTimesEach};
 ghost use Rattle.eos_source_check.specs.steps.Each.{AreEachOf, AreEachAgain};
 ghost use Rattle.eos_source_check.specs.steps.Earned.{IsRefusedAmong};
-ghost use Rattle.eos_source_check.specs.steps.FaultsAgain.{IsLogOf};
+ghost use Rattle.eos_source_check.specs.steps.Timing.{IsTimedAgain};
 
 use crate::fault::Unlisted;
-use crate::rising::{Rising, times_in};
-use bytes::Bytes;
+use crate::rising::{Asked, Rising};
+use crate::timing::read_times;
 use eos_base::{PartitionName, Sorted};
-use eos_evidence::{Evidence, Partition, Segment, read_segment};
+use eos_evidence::{Evidence, Partition, Segment};
 use eos_fold::begin_of;
 use eos_sought::is_named;
 use eos_source::{Piece, Source};
@@ -40,18 +39,19 @@ fn begins_next(names: &[Segment], i: usize) -> Option<u64>
     }
 }
 
-/// The bytes of a piece, as it is read now; none of a fold.
-fn bytes_again<S: Source>(
+/// What is asked of a piece, as it is read now; nothing of a fold.
+fn times_of_log<S: Source>(
     alloc: Global,
     source: &S,
     piece: u64,
-) -> Result<Option<Bytes>, Unlisted<S::Fault>>
-    ensures found { IfOk result (λ found. MatchOption found (S.is_log source.now piece ≡ false) (IsLogOf (known_by (S.said source.now) (S.is_log source.now) piece))) }
+    asked: &Asked,
+) -> Result<Option<Vec<(u64, i64)>>, Unlisted<S::Fault>>
+    ensures found { IfOk result (λ found. MatchOption found (S.is_log source.now piece ≡ false) (λ times. IsTimedAgain (known_by (S.said source.now) (S.is_log source.now) piece) asked.now times.items)) }
     ensures refused { IfErr result (IsRefusedFor (λ fault. S.outcomes source.now piece (Some fault))) }
 {
     match source.open(alloc, piece) {
-        Ok(Piece::Log(mut reader)) => match read_segment(alloc, &mut reader) {
-            Ok(bytes) => Ok(Some(bytes)),
+        Ok(Piece::Log(mut reader)) => match read_times(alloc, asked, &mut reader) {
+            Ok(times) => Ok(Some(times)),
             Err(why) => {
                 let fault = source.refusal(alloc, piece, &mut reader, why);
                 Err(Unlisted::Refused(fault))
@@ -60,35 +60,6 @@ fn bytes_again<S: Source>(
         Ok(Piece::Fold(_)) => Ok(None),
         Err(fault) => Err(Unlisted::Refused(fault)),
     }
-}
-
-/// The segment of this name with these bytes.
-#[tactic(auto, using(crate::proofs::LogsAgain::named_again))]
-fn segment_of(name: &Segment, bytes: Bytes) -> Result<Segment, AllocError>
-    ensures { (known : Known) → IsLogOf known bytes → IfOk result (IsLogAgain known name.now) }
-{
-    Ok(Segment {
-        topic: name.topic.clone()?,
-        partition: name.partition,
-        base: name.base,
-        bytes,
-    })
-}
-
-/// The segment, as it is read now; none where it is a fold.
-fn log_again<S: Source>(
-    alloc: Global,
-    source: &S,
-    named: Named<'_>,
-) -> Result<Option<Segment>, Unlisted<S::Fault>>
-    ensures found { IfOk result (λ found. MatchOption found (S.is_log source.now named.entry.piece ≡ false) (IsLogAgain (known_by (S.said source.now) (S.is_log source.now) named.entry.piece) named.entry.name.now)) }
-    ensures refused { IfErr result (IsRefusedFor (λ fault. S.outcomes source.now named.entry.piece (Some fault))) }
-{
-    let Some(bytes) = bytes_again(alloc, source, named.piece)? else {
-        return Ok(None);
-    };
-    let segment = segment_of(named.name, bytes)?;
-    Ok(Some(segment))
 }
 
 /// The times at those of these offsets that lie in a segment.
@@ -102,16 +73,15 @@ fn times_of<S: Source>(
     ensures times { IfOk result (λ times. AreEachOf (known_by (S.said source.now) (S.is_log source.now) named.entry.piece) named.entry.name.now named.entry.next offsets.now times.items) }
     ensures refused { IfErr result (IsRefusedFor (λ fault. S.outcomes source.now named.entry.piece (Some fault))) }
 {
-    let lying = offsets.between(begin_of(named.name), named.next);
+    let begin = begin_of(named.name);
+    let lying = offsets.between(begin, named.next);
     if lying.is_empty() {
         return Ok(Vec::new(alloc));
     }
-    match log_again(alloc, source, named)? {
+    let asked = lying.asked(alloc, begin)?;
+    match times_of_log(alloc, source, named.piece, &asked)? {
         None => Ok(Vec::new(alloc)),
-        Some(segment) => {
-            let times = times_in(alloc, &segment, &lying)?;
-            Ok(times)
-        }
+        Some(times) => Ok(times),
     }
 }
 
@@ -146,7 +116,7 @@ fn times_again<S: Source>(
 /// again for it, one after the other and only those in which an offset lies; where one changed since it was judged, they are those of what
 /// is read now. A segment that is a fold gives none. The work is that of these walks, and a step for each offset.
 ///
-/// Memory is that of one segment, and of the times.
+/// Memory is that of a chunk of a segment, or of a batch where that is larger, and of the times.
 ///
 /// # Errors
 /// A segment isn't there any more, or can't be read; or want of memory.

@@ -1,18 +1,15 @@
 -- What a walk along the front of a partition's segments keeps of the batches that it has passed.
-use Rattle.std.specs.Prelude.{◌≡◌, ◌≢◌, ℕ, ℤ, pos, Bool, true, List, [], ◌∷◌, ◌++◌, drop, is_some, Ok}
+use Rattle.std.specs.Prelude.{◌≡◌, ℕ, ℤ, Bool, true, List, [], ◌++◌, drop, is_some}
 use Rattle.std.specs.Ordering.{int_cmp}
 use Rattle.std.specs.BTreeMap.{BTreeMap, get}
 use Rattle.eos_base.specs.Members.{Has}
 use Rattle.eos_batch.specs.declared.batch.Batch.{Batch}
-use Rattle.eos_batch.specs.Reading.{batch_at}
-use Rattle.eos_batch.specs.Segment.{Splits}
 use Rattle.eos_evidence.specs.declared.segment.Segment.{Segment}
 use Rattle.eos_touch.specs.declared.touch.Touch.{Touch}
 use Rattle.eos_touch.specs.Touches.{last_touch}
-use Rattle.eos_touch.specs.Front.{records_in, ContinuesFrom}
+use Rattle.eos_touch.specs.Front.{records_in}
 use Rattle.eos_fold.specs.declared.stop.Stop.{Stop}
-use Rattle.eos_fold.specs.declared.stop.Stop.TheVariants.{AtEnd}
-use Rattle.eos_fold.specs.Fronts.{StopsAt, IsSegmentFront, IsFront}
+use Rattle.eos_fold.specs.Fronts.{IsSegmentFront, IsFront}
 use Rattle.eos_faults.specs.declared.walk.Walk.{Walk}
 use Rattle.eos_faults.specs.PartitionPlaces.{at_batches}
 
@@ -27,26 +24,6 @@ pub record HasPassed (sequenced : Bool) (front : List Batch) (walk : Walk) : Typ
   pub touches : (id : ℤ) → get int_cmp walk.last id ≡ last_touch id front
   pub ids : AreIdsOf walk.last walk.ids.items
   pub shown : walk.shown.items ≡ at_batches sequenced [] front
-
--- the batch at this byte goes on, and was passed
-pub record Passes (sequenced : Bool) (front : List Batch) (bytes : List ℕ) (at : ℕ) (walk : Walk) (size : ℕ) : Type 0 where
-  pub batch : Batch
-  pub read : batch_at (drop at bytes) ≡ Ok (batch, size)
-  pub stands : batch.base_offset ≡ pos (records_in front)
-  pub passed : HasPassed sequenced (front ++ batch ∷ []) walk
-
--- the front ends at this byte of a segment of this name
-pub record Stops (sequenced : Bool) (front : List Batch) (begin : ℕ) (bytes : List ℕ) (at : ℕ) (walk : Walk) (stop : Stop) : Type 0 where
-  pub stops : StopsAt begin (records_in front) bytes (drop at bytes) stop
-  pub inside : stop ≢ AtEnd
-  pub passed : HasPassed sequenced front walk
-
--- a segment up to this byte, after these batches
-pub record HasWalkedTo (sequenced : Bool) (front : List Batch) (bytes : List ℕ) (at : ℕ) (walk : Walk) : Type 0 where
-  pub inside : List Batch
-  pub texts : Splits bytes inside (drop at bytes)
-  pub continuous : ContinuesFrom (records_in front) inside
-  pub passed : HasPassed sequenced (front ++ inside) walk
 
 -- a segment up to its end, or up to where the front ends
 pub record HasPassedSegment (sequenced : Bool) (front : List Batch) (bytes : List ℕ) (walk : Walk) (stop : Stop) : Type 0 where

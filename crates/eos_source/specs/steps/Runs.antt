@@ -5,7 +5,7 @@ use Rattle.eos_evidence.specs.declared.segment.Segment.{Segment}
 use Rattle.eos_reading.specs.Wanted.{wanted_of}
 use Rattle.eos_kept.specs.declared.kept_run.KeptRun.{KeptRun}
 use Rattle.eos_kept.specs.KeptRuns.{IsKeptRun}
-use Rattle.eos_kept.specs.steps.Held.{Asking, IsAsked}
+use Rattle.eos_kept.specs.Held.{Asking, IsAsked}
 use Rattle.eos_source.specs.Said.{Said, Known, IsAsKnown}
 use Rattle.eos_source.specs.Shapes.{IsPiece, ArePieces}
 

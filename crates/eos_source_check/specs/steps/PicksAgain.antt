@@ -1,5 +1,6 @@
 -- Batches at some places of the segments of a partition, one segment after the other.
 use Rattle.std.specs.Prelude.{◌≡◌, ℕ, zero, suc, ℤ, List, [], ◌∷◌, map, Option, Some, None, if◌then◌else◌}
+use Rattle.std.specs.Option.{option_flatten}
 use Rattle.std.specs.Ordering.{int_eq}
 use Rattle.eos_batch.specs.declared.batch.Batch.{Batch}
 use Rattle.eos_evidence.specs.declared.partition.Partition.{Partition}
@@ -22,15 +23,11 @@ pub record AreOfLog (known : Known) (wanted : List (Option ℕ)) (told : List (O
   pub of : IsLogOf known bytes
   pub are : told ≡ map (told_at bytes) wanted
 
-abbrev pub flat : Option (Option Batch) → Option Batch
-flat None = None
-flat (Some batch) = batch
-
 -- what was found, and what is now, where this byte was looked for
 abbrev pub found_or : Option (Option Batch) → Option ℕ → Option (Option Batch) → Option (Option Batch)
 found_or (Some batch) byte told = Some batch
 found_or None None told = None
-found_or None (Some byte) told = Some (flat told)
+found_or None (Some byte) told = Some (option_flatten told)
 
 -- of so many, and of the others what was found
 abbrev pub found_front : ℕ → List (Option ℕ) → List (Option (Option Batch)) → List (Option (Option Batch)) → List (Option (Option Batch))

@@ -1,30 +1,17 @@
-use Rattle.std.proofs.Common.{subst, arith}
-use Rattle.eos_wire.specs.Numbers.{IsBytes}
-use Rattle.eos_faults.proofs.SegmentSteps.{begins, said_size, said_stop, goes_on, ends_whole, ends_inside}
+use Rattle.std.proofs.Common.{List, sym, subst, arith}
+use Rattle.eos_fold_file.specs.declared.head.FoldHead.{FoldHead}
+use Rattle.eos_faults.proofs.SegmentSteps.{IsPassing, begins, next_one, none_left}
 use Rattle.eos_faults.proofs.segments.pass_segment.Goals as goal
 
-pub loop-at-init : goal.loop-at-init
-loop-at-init c = record { within = omega arith; walked = λ sequenced front h. begins sequenced front c.args.bytes.now c.args.walk.now h }
+pub loop-head-init : goal.loop-head-init
+loop-head-init c = λ sequenced front segment h is base.
+    subst (λ (hs : List FoldHead). IsPassing sequenced front segment c.args.fold.now.stop hs c.args.walk.now) (sym c.as_slice-heads.ensures) (begins sequenced front segment c.args.fold.now c.args.walk.now h is base)
 
-pub loop-at-preserved : goal.loop-at-preserved
-loop-at-preserved c =
-    let fits : IsBytes c.args.bytes.now = subst IsBytes c.as_slice.ensures c.are_bytes.ensures in
-    let at = c.loop-at.at in
-    let within = c.loop-at.invariant.within in
-    record {
-      within = (rw c.in-Ok.is at c.in_ok-size.ensures.size).1;
-      walked = λ sequenced front h.
-          let w = c.loop-at.invariant.walked sequenced front h in
-          let p = said_size _ _ c.in_ok-size.field-0 c.in-Ok.size c.in-Ok.is (c.in_ok-size.ensures.passed sequenced _ w.passed) in
-          goes_on sequenced front c.args.bytes.now at c.loop-at.walk c.pass_next.new.walk c.in-Ok.size fits within w p;
-    }
-
-pub returns-in-Err : goal.returns-in-Err
-returns-in-Err c = λ sequenced front h.
-    let w = c.loop-at.invariant.walked sequenced front h in
-    let s = said_stop _ _ c.in_ok-size.field-0 c.in-Err.stop c.in-Err.is (c.in_ok-size.ensures.passed sequenced _ w.passed) in
-    ends_inside sequenced front c.args.walk.now.next c.args.bytes.now c.loop-at.at c.loop-at.walk c.pass_next.new.walk c.in-Err.stop h.next w s
+pub loop-head-preserved : goal.loop-head-preserved
+loop-head-preserved c = λ sequenced front segment h is base.
+    next_one sequenced front segment c.args.fold.now.stop c.as_slice-heads.result.now c.loop-head.head-index _ c.at-head.result c.loop-head.walk c.pass.new.self c.loop-head-test.true (c.loop-head.invariant sequenced front segment h is base) c.at-head.ensures
+    (λ before b size at on passed. c.in_ok-pass.ensures sequenced before b size at on passed)
 
 pub returns : goal.returns
-returns c = λ sequenced front h.
-    ends_whole sequenced front c.args.bytes.now c.loop-at.at c.loop-at.walk (omega (arith, c.len.ensures.value, c.loop-at-test.false)) (c.loop-at.invariant.walked sequenced front h)
+returns c = λ sequenced front segment h is base.
+    none_left sequenced front segment c.args.fold.now.stop c.as_slice-heads.result.now c.loop-head.head-index c.loop-head.walk (omega (arith, c.loop-head-test.false)) (c.loop-head.invariant sequenced front segment h is base)

@@ -1,6 +1,6 @@
 use Rattle.std.proofs.Common.{Option, subst}
 use Rattle.eos_kept.specs.declared.kept_run.KeptRun.{KeptRun}
-use Rattle.eos_kept.specs.steps.Held.{AreHeld}
+use Rattle.eos_kept.specs.Held.{AreHeld}
 use Rattle.eos_kept.proofs.PartsHeld.{joined}
 use Rattle.eos_kept.proofs.held.longer.Goals as goal
 

@@ -2,7 +2,7 @@ use Rattle.std.proofs.Common.{◌∷◌, [], refl, sym, w64, rules}
 use Rattle.std.proofs.lemmas.Int.{to_z-of_z}
 use mir.Val.{SFits}
 use Rattle.eos_kept.specs.declared.kept_run.KeptRun.TheVariants.{Presence, Claims, Texts}
-use Rattle.eos_kept.specs.steps.Held.{Asking}
+use Rattle.eos_kept.specs.Held.{Asking}
 use Rattle.eos_kept.proofs.PartsHeld.{one_held}
 use Rattle.eos_kept.proofs.PartsMade.{run_claims}
 use Rattle.eos_kept.proofs.held.read_held.Goals as goal

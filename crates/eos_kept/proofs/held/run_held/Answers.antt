@@ -1,5 +1,5 @@
 use Rattle.std.proofs.Common.{◌∷◌, [], take}
-use Rattle.eos_kept.specs.steps.Held.{Asking}
+use Rattle.eos_kept.specs.Held.{Asking}
 use Rattle.eos_kept.proofs.PartsHeld.{of_partition, more_held, is_small}
 use Rattle.eos_kept.proofs.held.run_held.Goals as goal
 

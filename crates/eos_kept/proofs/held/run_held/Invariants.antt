@@ -1,5 +1,5 @@
 use Rattle.std.proofs.Common.{take}
-use Rattle.eos_kept.specs.steps.Held.{AreHeld}
+use Rattle.eos_kept.specs.Held.{AreHeld}
 use Rattle.eos_kept.proofs.held.run_held.Given as goal
 
 abbrev pub invariant-loop-i : goal.invariant-loop-i

@@ -1,4 +1,4 @@
-use Rattle.eos_kept.specs.steps.Held.{Asking}
+use Rattle.eos_kept.specs.Held.{Asking}
 use Rattle.eos_kept.proofs.PartsHeld.{all_told, same_end, were_kept}
 use Rattle.eos_kept.proofs.held.told_in.Goals as goal
 

@@ -1,7 +1,7 @@
 use Rattle.std.proofs.Common.{◌≡◌, true, List, ℕ, refl, sym, subst, ◌∙◌, rules}
 use Rattle.std.specs.Prelude.{IfSome}
 use Rattle.eos_source.specs.Said.{known_by, WillSay, IsOpenedLog, IsLegalPiece}
-use Rattle.eos_kept.specs.steps.Held.{Asking, IsAsked}
+use Rattle.eos_kept.specs.Held.{Asking, IsAsked}
 use Rattle.eos_source.proofs.PiecesRead.{log_read, fold_taken}
 use Rattle.eos_source.proofs.piece.read_piece.Goals as goal
 

@@ -1,4 +1,4 @@
-use Rattle.std.proofs.Common.{◌≡◌, ◌+◌, length, ap, arith, refl}
+use Rattle.std.proofs.Common.{◌≡◌, length, ap, arith, refl}
 use Rattle.std.proofs.lemmas.Result.{err_from_is_err_and}
 use Rattle.eos_source.specs.Said.{known_by}
 use Rattle.eos_source_check.proofs.EarnedAgain.{of_pieces}

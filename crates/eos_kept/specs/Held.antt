@@ -1,4 +1,4 @@
--- What is kept of segments of one topic that are held in memory, as it was asked.
+-- What is kept of segments of one topic, as it was asked.
 use Rattle.std.specs.Prelude.{◌≡◌, ℕ, not, List, [], Option, Some, None}
 use Rattle.eos_evidence.specs.declared.segment.Segment.{Segment}
 use Rattle.eos_evidence.specs.Topics.{is_internal}
