@@ -5,7 +5,6 @@ pub mod LeastInWhole
 pub mod ClosesRead
 pub mod ClosesOnce
 pub mod RisingItems
-pub mod IndexedBatches
 pub mod ListPlaces
 pub mod Waiting
 pub mod FatesSet
@@ -18,13 +17,5 @@ pub mod OneBatch
 pub mod NextByOffset
 pub mod TouchKinds
 pub mod Judged
-pub mod ProducerCounts
-pub mod Following
-pub mod TouchTable
-pub mod LeastAtBatch
-pub mod LeastInSegment
-pub mod GoodSegment
-pub mod FedSteps
 pub mod MoreBytes
 pub mod MoreSplits
-pub mod FrontHeads

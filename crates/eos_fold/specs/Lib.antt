@@ -1,7 +1,6 @@
 pub mod Closes
 pub mod Parts
 pub mod Fronts
-pub mod FrontHeads
 pub mod Sums
 pub mod Standing
 pub mod Whole
@@ -21,7 +20,4 @@ pub mod NextMarker
 pub mod BatchesWhole
 pub mod Taken
 pub mod Earlier
-pub mod Counts
-pub mod ChainFaults
-pub mod Good
 pub mod ChunkViews

@@ -4,5 +4,3 @@ pub mod Endings
 pub mod States
 pub mod Joins
 pub mod Summaries
-pub mod Feeding
-pub mod Walks

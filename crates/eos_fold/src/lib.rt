@@ -1,5 +1,5 @@
 //! What a partition's log says of exactly-once delivery, by definitions over its bytes, and the parts of which it is worked
-//! out in one pass over its record batches; and `chain`, which takes one segment as a whole partition.
+//! out in one pass over its record batches.
 //!
 //! Of a data batch a head is kept, of a producer id the ends of its touches, which are joined with those of what comes
 //! behind. Bytes come chunk by chunk: what was taken is forgotten, and the bytes of a batch that isn't whole yet stay in one
@@ -8,12 +8,10 @@
 
 pub mod batch_laws;
 mod batches;
-mod chain_walk;
 mod close;
 mod ends;
 mod entry;
 mod fault;
-mod fed;
 mod feed;
 mod fold;
 mod front;
@@ -22,12 +20,9 @@ mod indexes;
 mod item;
 pub mod laws;
 mod mark;
-mod next_head;
-mod one_segment;
 mod reader;
 mod stop;
 mod table;
-mod walk;
 mod whole;
 
 pub use batches::{at_first, lesser_open};
@@ -43,10 +38,7 @@ pub use head::DataHead;
 pub use indexes::Indexes;
 pub use item::{Fate, Item};
 pub use mark::EndMark;
-pub use next_head::front_head;
-pub use one_segment::{Chain, chain, chain_from};
 pub use reader::read_folded;
 pub use stop::{Stop, is_at_end};
 pub use table::{make_room, make_room_for};
-pub use walk::{head_with, read_head, refusal};
 pub use whole::{fault_of, is_declared, kind_at_stop, pair_kind};

@@ -1,5 +1,6 @@
 pub mod TextsPlaced
 pub mod HeadLists
+pub mod FailedTests
 pub mod KeptLists
 pub mod MarkerHeads
 pub mod FoldSteps

@@ -7,13 +7,12 @@ ghost use Rattle.eos_batch.specs.Places.{records_in};
 ghost use Rattle.eos_reading.specs.Runs.{IsRun};
 ghost use Rattle.eos_reading.specs.steps.Keeping.{Keeps, Grows, IsKept};
 
-use crate::head::control_head;
+use crate::head::{control_head, head_with};
 use crate::kept_list::KeptList;
 use crate::placed::Placed;
 use crate::reading::Reading;
 use bytes::Bytes;
 use eos_batch::{BatchFault, BatchHead, lend_record, open_batch, test_data};
-use eos_fold::head_with;
 use eos_wire::are_bytes;
 use std::alloc::{AllocError, Global};
 

@@ -4,18 +4,34 @@ ghost use Rattle.std.specs.Prelude.{◌≡◌, ◌≤◌, ◌∷◌, [], ℕ, po
 ghost use Rattle.eos_batch.specs.declared.batch.Batch.{Batch};
 ghost use Rattle.eos_batch.specs.Answers.{Fails};
 ghost use Rattle.eos_batch.specs.Attributes.{is_control};
-ghost use Rattle.eos_batch.specs.Heads.{head_of};
+ghost use Rattle.eos_batch.specs.Heads.{head_with, head_of};
 ghost use Rattle.eos_batch.specs.Marker.{marker_of};
 ghost use Rattle.eos_batch.specs.Places.{IsOpened, finished, records_in};
 ghost use Rattle.eos_batch.specs.Reading.{batch_at, with_records};
 
 use bytes::Bytes;
 use eos_batch::{
-    Batch, BatchFault, BatchHead, Marker, Opened, RecordRef, coordinator_epoch, end_kind,
-    lend_record,
+    Batch, BatchFault, BatchHead, Marker, Opened, RecordRef, coordinator_epoch, decode_batch,
+    end_kind, lend_record,
 };
-use eos_fold::{head_with, read_head};
 use std::alloc::Global;
+
+/// A batch's head, with the number of its records and bytes and its end marker.
+pub(crate) fn head_with(batch: &Batch, count: u32, size: usize, marker: Option<Marker>) -> BatchHead
+    ensures { result ≡ head_with batch.now count size marker }
+{
+    BatchHead {
+        offset: batch.base_offset.unsigned_abs(),
+        count,
+        size,
+        producer: batch.producer,
+        epoch: batch.epoch,
+        sequence: batch.sequence,
+        is_control: batch.is_control(),
+        is_transactional: batch.is_transactional(),
+        marker,
+    }
+}
 
 /// Whether a batch names a producer and its epoch.
 fn is_named(batch: &Batch) -> bool
@@ -82,7 +98,18 @@ fn marker_head(bytes: &Bytes, at: usize, opened: &Opened) -> Option<BatchHead>
     Some(head_with(&opened.batch, 1, opened.end - at, Some(marker)))
 }
 
-/// The head of the control batch that was opened at `at`. What is no end marker, and what fails a test, is read once more.
+/// The head of the batch at `at`, which is read whole.
+fn decoded_head(alloc: Global, bytes: &Bytes, at: usize) -> Result<BatchHead, BatchFault>
+    requires { at ≤ length bytes.now }
+    ensures ok { IfOk result (λ h. (b : Batch) × (batch_at (drop at bytes.now) ≡ Ok (b, h.size)) × (h ≡ head_of b h.size)) }
+    ensures err { IfErr result (λ e. Fails e (batch_at (drop at bytes.now))) }
+{
+    let (batch, size) = decode_batch(alloc, bytes, at)?;
+    let count = batch.records.as_slice().len() as u32;
+    Ok(head_with(&batch, count, size, batch.marker()))
+}
+
+/// The head of the control batch that was opened at `at`. What is no end marker, and what fails a test, is read whole.
 ///
 /// # Errors
 /// The first test that fails, and want of memory where it is no end marker.
@@ -100,6 +127,6 @@ pub(crate) fn control_head(
 {
     match marker_head(bytes, at, opened) {
         Some(head) => Ok(head),
-        None => read_head(alloc, bytes, at),
+        None => decoded_head(alloc, bytes, at),
     }
 }

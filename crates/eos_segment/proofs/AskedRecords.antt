@@ -1,10 +1,10 @@
 -- Whether one of a batch's records was asked for, by its first and its last offset.
-use Rattle.std.proofs.Common.{◌≡◌, ℕ, ◌+◌, ◌<◌, ◌≤◌, suc, ℤ, pos, negsuc, ◌+ℤ◌, ◌≤ℤ◌, Bool, true, false, ◌&&◌, ◌||◌, ltb, leb, List, [], ◌∷◌, length, min, max, ◌⊎◌, inl, inr, arith, refl, sym, ◌∙◌, ap}
+use Rattle.std.proofs.Common.{◌≡◌, ℕ, ◌+◌, ◌<◌, ◌≤◌, suc, ℤ, pos, negsuc, ◌≤ℤ◌, Bool, false, ltb, List, [], ◌∷◌, length, min, max, ◌⊎◌, inl, inr, arith, refl, sym, ◌∙◌}
 use Rattle.std.proofs.lemmas.Bool.{lt-ltb, le-ltb, le-leb, lt-leb, cases_lt}
 use Rattle.std.proofs.lemmas.Int.{ints}
 use Rattle.eos_batch.specs.declared.record.Record.{Record}
 use Rattle.eos_segment.specs.declared.options.ListingOptions.{ListingOptions}
-use Rattle.eos_segment.specs.Choosing.{is_asked, asks_for_one}
+use Rattle.eos_segment.specs.Choosing.{asks_for_one}
 
 one_by_numbers : (o : ListingOptions) (n : ℕ) (rs : List Record) → asks_for_one o (pos n) rs ≡ ltb (max o.from n) (min o.to (n + length rs))
 one_by_numbers o n [] = sym (le-ltb (max o.from n) (min o.to (n + 0)) (omega arith))

@@ -4,3 +4,11 @@ pub mod Listings
 pub mod PlainListings
 pub mod Runs
 pub mod NameRuns
+pub mod ProducerCounts
+pub mod Following
+pub mod TouchTable
+pub mod LeastAtBatch
+pub mod LeastInSegment
+pub mod GoodSegment
+pub mod FedSteps
+pub mod PassedHeads

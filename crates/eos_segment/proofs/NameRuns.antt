@@ -1,5 +1,5 @@
 -- Names of partitions, topic after topic.
-use Rattle.std.proofs.Common.{◌≡◌, ℕ, ◌+◌, suc, arith, ℤ, Bool, true, false, ◌&&◌, ◌==◌, List, [], ◌∷◌, ◌++◌, length, map, refl, sym, append_assoc}
+use Rattle.std.proofs.Common.{◌≡◌, ℕ, suc, arith, ℤ, Bool, true, false, ◌&&◌, ◌==◌, List, [], ◌∷◌, ◌++◌, length, map, refl, sym, append_assoc}
 use Rattle.std.proofs.lemmas.Bool.{ne_eqb}
 use Rattle.eos_base.specs.declared.partition_name.PartitionName.{PartitionName}
 use Rattle.eos_text.specs.Adding.{Adds}

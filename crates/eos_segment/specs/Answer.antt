@@ -1,11 +1,11 @@
 -- What `chain` prints for the bytes of a segment: that the chain is kept, with two counts, or the least fault.
 use Rattle.std.specs.Prelude.{◌≡◌, ℕ, List, ◌++◌, codes, ◌⊎◌}
 use Rattle.std.specs.Fmt.{decimal}
-use Rattle.eos_fold.specs.declared.one_segment.counts.Chain.{Chain}
+use Rattle.eos_segment.specs.declared.one_segment.counts.Chain.{Chain}
 use Rattle.eos_touch.specs.declared.fault.PartitionFault.{PartitionFault}
 use Rattle.eos_touch.specs.FaultNames.{number_of, name_of}
-use Rattle.eos_fold.specs.Good.{IsGood}
-use Rattle.eos_fold.specs.ChainFaults.{IsLeastFault}
+use Rattle.eos_segment.specs.Good.{IsGood}
+use Rattle.eos_segment.specs.ChainFaults.{IsLeastFault}
 use Rattle.eos_verdict.specs.Details.{details}
 
 unfoldable pub good_line : Chain → List ℕ

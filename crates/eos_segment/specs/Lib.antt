@@ -1,3 +1,6 @@
+pub mod Counts
+pub mod ChainFaults
+pub mod Good
 pub mod Answer
 pub mod Choosing
 pub mod Faults

@@ -1,2 +1,4 @@
 pub mod Holding
 pub mod Opening
+pub mod Feeding
+pub mod Walks

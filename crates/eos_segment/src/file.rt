@@ -9,7 +9,7 @@ ghost use Rattle.eos_segment.specs.Files.{IsToldOf, IsToldOfBytes};
 ghost use Rattle.eos_segment.specs.Listing.{IsListing};
 ghost use Rattle.eos_segment.specs.steps.Opening.{IsUnopened};
 
-use crate::chain::chain_to;
+use crate::answer::chain_to;
 use crate::dump::dump_to;
 use crate::fault::RunFault;
 use crate::options::ListingOptions;

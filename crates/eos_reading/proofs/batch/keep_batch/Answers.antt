@@ -2,7 +2,7 @@ use Rattle.std.proofs.Common.{◌≡◌, ◌∙◌, length, sym, rules}
 use Rattle.std.proofs.lemmas.Result.{IfOk-weaker}
 use Rattle.eos_batch.specs.Offsets.{offset_of}
 use Rattle.eos_batch.proofs.OpenedTests.{records_fail}
-use Rattle.eos_fold.proofs.IndexedBatches.{tests_fail}
+use Rattle.eos_reading.proofs.FailedTests.{tests_fail}
 use Rattle.eos_reading.proofs.KeptLists.{kept_data, kept_control, taken_back}
 use Rattle.eos_reading.proofs.batch.keep_batch.Goals as goal
 

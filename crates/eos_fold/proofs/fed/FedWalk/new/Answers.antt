@@ -1,5 +1,0 @@
-use Rattle.eos_fold.proofs.FedSteps.{fed_none}
-use Rattle.eos_fold.proofs.fed.FedWalk.new.Goals as goal
-
-pub returns : goal.returns
-returns c = fed_none c.new.result c.new.ensures
