@@ -2,7 +2,6 @@
 -- in their partitions' segments as these are read again.
 use Rattle.std.specs.Prelude.{◌≡◌, ⊤, ℕ, ℤ, List, [], ◌∷◌, ◌==◌, Bool, true, false, Option, None, Some, option_map, codes, string_bytes, if◌then◌else◌}
 use Rattle.std.specs.List.{Contains}
-use Rattle.eos_base.specs.declared.partition_name.PartitionName.{PartitionName}
 use Rattle.eos_verdict.specs.declared.verdict.Fault.{Fault}
 use Rattle.eos_verdict.specs.declared.verdict.Fault.TheVariants.{Partition as InPartition, Log, Match, Lineage}
 use Rattle.eos_verdict.specs.declared.verdict.Verdict.{Verdict}

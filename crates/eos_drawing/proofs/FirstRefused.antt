@@ -1,5 +1,5 @@
 -- A refusal of a folder of which a picture is drawn is the first one.
-use Rattle.std.proofs.Common.{◌≡◌, inl, inr, ℕ, Bool, List, length, Option, Result, Ok, Err, refl, sym, subst}
+use Rattle.std.proofs.Common.{◌≡◌, inl, inr, ℕ, Bool, List, length, Option, Result, Ok, Err, sym, subst}
 use Rattle.std.specs.Prelude.{⊤}
 use Rattle.eos_disk.specs.Entries.{Entry}
 use Rattle.eos_disk.specs.Paths.{manifest_path}

@@ -1,5 +1,5 @@
 -- What is drawn of what was judged is the answer to each evidence of which it was judged.
-use Rattle.std.proofs.Common.{◌≡◌, ◌≤◌, ◌<◌, ◌-◌, ℕ, zero, suc, true, List, length, slice_index_or, Option, None, Some, Result, Ok, Err, IfOk, inl, inr, refl, sym, subst, string_bytes, arith}
+use Rattle.std.proofs.Common.{◌≡◌, ◌≤◌, ◌<◌, ◌-◌, ℕ, zero, suc, true, List, length, slice_index_or, Option, None, Some, inl, inr, refl, sym, subst, string_bytes, arith}
 use Rattle.std.proofs.lemmas.Option.{slice_get_read}
 use Rattle.std.specs.Option.{unwrap_or}
 use Rattle.std.specs.Prelude.{slice_get}
@@ -16,7 +16,6 @@ use Rattle.eos_source_check.specs.Judged.{IsJudgedFor}
 use Rattle.eos_source_check.specs.declared.judged.Judged.{Judged}
 use Rattle.eos_source_check.specs.Listed.{IsListOf}
 use Rattle.eos_source_check.proofs.FoldersRead.{by_judged, by_list}
-use Rattle.eos_drawing.specs.declared.answer.Answer.{Answer}
 use Rattle.eos_drawing.specs.declared.answer.Answer.TheVariants as answers
 use Rattle.eos_drawing.specs.declared.answer.Drawn.{Drawn}
 use Rattle.eos_picture.specs.declared.times.Times.{Times}

@@ -1,5 +1,5 @@
 -- The pictures around the first faults of an evidence, in the order of the list of all.
-use Rattle.std.specs.Prelude.{◌≡◌, ◌≤◌, ◌⊎◌, ⊤, ℕ, suc, List, [], ◌∷◌, length, None, Some}
+use Rattle.std.specs.Prelude.{◌≤◌, ◌⊎◌, ⊤, ℕ, suc, List, [], ◌∷◌, length, None, Some}
 use Rattle.eos_evidence.specs.declared.partition.Partition.{Partition}
 use Rattle.eos_evidence.specs.Evidence.{EvidenceParts}
 use Rattle.eos_source.specs.Said.{Known}

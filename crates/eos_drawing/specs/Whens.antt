@@ -1,6 +1,6 @@
 -- When the records of a picture's marks were written: of each row the time at the offset of each of its marks, as its partition's segments
 -- say it where they are read again.
-use Rattle.std.specs.Prelude.{◌≡◌, ⊤, ℕ, List, [], ◌∷◌, ◌++◌, Option, None, Some}
+use Rattle.std.specs.Prelude.{⊤, ℕ, List, [], ◌∷◌, ◌++◌, Option, None, Some}
 use Rattle.eos_evidence.specs.declared.partition.Partition.{Partition}
 use Rattle.eos_picture.specs.declared.mark.Mark.{Mark}
 use Rattle.eos_picture.specs.declared.mark.Row.{Row}

@@ -23,9 +23,6 @@ use Rattle.eos_explaining.proofs.OwnNames.{found_has, found_is, named_is, same_e
 
 -- ---- one that is read
 
-pub none_more : (known : ℕ → Known) (shapes : List Partition) (xs : List Folded) → ReadsMore known shapes xs xs
-none_more known shapes xs = record { kept = λ f has. has; come = λ f has. inl has }
-
 pub more_still : (known : ℕ → Known) (shapes : List Partition) (first before after : List Folded) → ReadsMore known shapes first before → ReadsMore known shapes before after → ReadsMore known shapes first after
 more_still known shapes first before after h k = record {
   kept = λ f has. k.kept f (h.kept f has);

@@ -1,13 +1,12 @@
 -- Items of a list, so many from a place on, as they are passed one after the other.
-use Rattle.std.proofs.Common.{◌≡◌, ◌<◌, ◌≤◌, ◌-◌, ℕ, zero, suc, List, [], ◌∷◌, ◌++◌, length, map, take, drop, refl, sym, ap, subst, ◌∙◌, append_assoc, arith, slice_get}
-use Rattle.std.proofs.lemmas.List.{append-nil, length-drop}
+use Rattle.std.proofs.Common.{◌≡◌, ◌<◌, ◌≤◌, ℕ, zero, suc, List, [], ◌∷◌, ◌++◌, length, map, take, drop, refl, sym, ap, subst, ◌∙◌, append_assoc, arith, slice_get}
+use Rattle.std.proofs.lemmas.List.{append-nil}
 use Rattle.eos_verdict.specs.declared.verdict.Fault.{Fault}
 use Rattle.eos_verdict.specs.declared.verdict.Verdict.{Verdict}
 use Rattle.eos_verdict.specs.declared.verdict.Verdict.TheVariants.{No}
 use Rattle.eos_faults.specs.Sinks.{TakesAll}
 use Rattle.eos_explaining.specs.declared.kinds.Picked.{Picked}
 use Rattle.eos_explaining.specs.steps.Counting.{IsPicked, IsPickedMore}
-use Rattle.eos_sought.proofs.Keeping.{take_kept, take_full}
 
 drop_more : {X : Type 0} (k : ℕ) (xs : List X) (x : X) → k ≤ length xs → drop k (xs ++ x ∷ []) ≡ drop k xs ++ x ∷ []
 drop_more zero xs x le = refl
@@ -19,16 +18,6 @@ drop_all zero xs x lt = absurd (omega (arith, lt))
 drop_all (suc zero) [] x lt = refl
 drop_all (suc (suc k)) [] x lt = refl
 drop_all (suc k) (y ∷ ys) x lt = drop_all k ys x (omega (arith, lt))
-
-module _ {X : Type 0} (from most : ℕ) (xs : List X) (x : X) where
-  pub pick_more : from ≤ length xs → length xs - from < most → take most (drop from (xs ++ x ∷ [])) ≡ take most (drop from xs) ++ x ∷ []
-  pick_more le lt = ap (take most) (drop_more from xs x le) ∙ take_kept most (drop from xs) x (omega (arith, length-drop from xs, lt))
-
-  pub pick_early : length xs < from → take most (drop from (xs ++ x ∷ [])) ≡ take most (drop from xs)
-  pick_early lt = ap (take most) (drop_all from xs x lt)
-
-  pub pick_full : from ≤ length xs → most ≤ length xs - from → take most (drop from (xs ++ x ∷ [])) ≡ take most (drop from xs)
-  pick_full le full = ap (take most) (drop_more from xs x le) ∙ take_full most (drop from xs) x (omega (arith, length-drop from xs, full))
 
 -- all of a list
 pub all_picked : (faults : List Fault) (told : List Verdict) (from to : Picked) → TakesAll IsPickedMore from faults to → IsPicked told from → (to.pick ≡ from.pick) × IsPicked (told ++ map No faults) to

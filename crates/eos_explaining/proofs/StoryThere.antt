@@ -110,6 +110,3 @@ told_settled known shape old after about verdict fault place story text scene he
 pub headers_still : (known : ℕ → Known) (shape : EvidenceParts) (before after : List Folded) (place : Option Place) (headers : List Header) → AreKept before after → AreHeadersThere known shape before place headers → AreHeadersThere known shape after place headers
 headers_still known shape before after place headers kept h =
     record { also = h.also; read_also = h.read_also; are = λ e is_shape is spec has there. h.are e is_shape is spec (folds_before e before after kept has) there }
-
-pub told_still : (known : ℕ → Known) (shape : EvidenceParts) (read : List Folded) (about : About) (verdict again : Verdict) (text : List ℕ) → again ≡ verdict → IsToldBy known shape read about again text → IsToldBy known shape read about verdict text
-told_still known shape read about verdict again text same told = subst (λ v. IsToldBy known shape read about v text) same told

@@ -149,12 +149,6 @@ at_known shape also (x ∷ xs) (f ∷ fs) (suc i) row time so at is = at_known s
 
 -- ---- the list of what is known, made anew
 
-pub first_at : (found : List (Option (Option ℤ))) (i : ℕ) (one : Option (Option ℤ)) → i < length found → one ≡ get_or found i one → one ≡ first_known (drop i found)
-first_at found i one lt is = is ∙ sym (ap first_known (drop_more found i one lt))
-
-pub first_past : (found : List (Option (Option ℤ))) (i : ℕ) → length found ≤ i → None ≡ first_known (drop i found)
-first_past found i past = sym (ap first_known (drop_all i found past))
-
 one_less : (found : List (Option (Option ℤ))) (i : ℕ) → rest_known (drop i found) ≡ drop (suc i) found
 one_less [] zero = refl
 one_less [] (suc i) = refl

@@ -1,12 +1,12 @@
 -- What is so of what was judged is so of what was read; and where it is known what stands below a folder, of the evidence that stands there.
-use Rattle.std.proofs.Common.{◌≡◌, ◌<◌, ◌∙◌, ℕ, Bool, true, false, List, [], length, Option, Some, refl, sym, subst}
+use Rattle.std.proofs.Common.{◌≡◌, ◌∙◌, ℕ, Bool, true, false, List, [], refl, sym, subst}
 use Rattle.eos_disk.specs.Entries.{Entry}
 use Rattle.eos_disk.specs.Shapes.{IsShapeAt, AreKnown}
 use Rattle.eos_disk.specs.declared.names.Form.{Form}
 use Rattle.eos_disk.proofs.OneShape.{one_shape}
 use Rattle.eos_evidence.specs.Evidence.{EvidenceParts, segments_of}
 use Rattle.eos_source.specs.FolderLogs.{is_log_at}
-use Rattle.eos_source.specs.Said.{Said, Known, known_by}
+use Rattle.eos_source.specs.Said.{Known, known_by}
 use Rattle.eos_source.specs.Saying.{said_at, known_at, StandsAt}
 use Rattle.eos_source.specs.Shapes.{HoldsAsSaid}
 use Rattle.eos_source.proofs.SameShape.{holds_of_known}

@@ -1,5 +1,5 @@
 -- Segments that are read again for their folds, and where a partition stands among all.
-use Rattle.std.proofs.Common.{◌≡◌, ◌<◌, ◌≤◌, ℕ, ◌+◌, List, [], ◌∷◌, ◌++◌, length, take, get_or, Option, Some, None, true, refl, sym, ap, subst, ◌∙◌, arith}
+use Rattle.std.proofs.Common.{◌≡◌, ◌<◌, ◌≤◌, ℕ, ◌+◌, List, [], ◌∷◌, ◌++◌, length, take, get_or, Option, Some, true, refl, sym, ap, subst, ◌∙◌, arith}
 use Rattle.std.specs.Prelude.{slice_get}
 use Rattle.std.proofs.lemmas.List.{take_more, take_all, length-take-le}
 use Rattle.std.proofs.lemmas.Option.{slice_get_read}
@@ -90,9 +90,6 @@ pub named_folds : (known : ℕ → Known) (partitions : List Partition) (name : 
     → IsFoldedAgain known first shape folded → AreFoldsNamed known partitions name (Some folded)
 named_folds known partitions name place first shape folded found at again =
     record { read = Some again.partition; again = found.named known shape again.partition at again.again; are = again.of }
-
-pub none_folds : (known : ℕ → Known) (partitions : List Partition) (name : PartitionName) → IsNamedAgain known 0 partitions name None → AreFoldsNamed known partitions name None
-none_folds known partitions name none = record { read = None; again = none; are = tt }
 
 -- ---- of the partition that was found there
 

@@ -13,10 +13,10 @@ use Rattle.eos_commits.specs.EvidenceLogs.{AreLogsOf, commits_for}
 use Rattle.eos_commits.specs.Applications.{is_part_of, parts_of}
 use Rattle.eos_commits.proofs.LogsInOrder.{in_order}
 use Rattle.eos_notes.specs.declared.note.Note.{Note}
-use Rattle.eos_notes.specs.CommitNotes.{AreUnlisted, AreUnlistedNotes, past_end_at, past_end_of, past_ends_in, past_ends, nothing_by, nothing_in, nothing_committed, behind_of, behind_in, behind}
+use Rattle.eos_notes.specs.CommitNotes.{AreUnlisted, AreUnlistedNotes, past_end_at, past_end_of, past_ends_in, nothing_by, nothing_in, behind_of, behind_in}
 use Rattle.eos_notes.specs.ManifestNotes.{no_application, absent_topics, gaps, absent_internals}
 use Rattle.eos_notes.specs.ReplicaNotes.{falls, by_entries}
-use Rattle.eos_notes.specs.ReplacedNotes.{Committed, committed_epoch, other_at, others_in, others, others_unless}
+use Rattle.eos_notes.specs.ReplacedNotes.{committed_epoch, other_at, others_in, others_unless}
 use Rattle.eos_notes.specs.Notes.{of_all, of_replicas, AreNotesBy, AreAllNotesBy, AreAllNotes}
 use Rattle.eos_notes.specs.Lines.{IsAllNotesTextBy, IsAllNotesText}
 use Rattle.eos_notes.proofs.Whole.{all_are}

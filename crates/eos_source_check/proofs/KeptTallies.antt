@@ -2,7 +2,7 @@
 -- kept.
 use Rattle.std.proofs.Common.{◌≡◌, ℕ, ℤ, pos, Bool, List, [], ◌∷◌, map, length, Option, Some, None, is_some, refl, sym, ap, subst, ◌∙◌}
 use Rattle.std.specs.Prelude.{int_lt, if◌then◌else◌}
-use Rattle.std.specs.List.{filter, zip}
+use Rattle.std.specs.List.{filter}
 use Rattle.std.proofs.lemmas.List.{length-map}
 use Rattle.eos_base.specs.Members.{Has}
 use Rattle.eos_base.specs.declared.partition_name.PartitionName.{PartitionName}
@@ -20,9 +20,6 @@ use Rattle.eos_kept.specs.Faults.{AreFaultsIn, first_of}
 use Rattle.eos_touch.specs.declared.fault.PartitionFault.{PartitionFault}
 use Rattle.eos_notes.specs.declared.tally.Counted.{Counted}
 use Rattle.eos_notes.specs.declared.tally.GroupTally.{GroupTally}
-use Rattle.eos_notes.specs.declared.tally.PartitionTally.{PartitionTally}
-use Rattle.eos_notes.specs.declared.tally.SourceTally.{SourceTally}
-use Rattle.eos_notes.specs.declared.tally.Tallies.{Tallies}
 use Rattle.eos_notes.specs.declared.tally.TopicRoles.{TopicRoles}
 use Rattle.eos_notes.specs.Counts.{AreCounted}
 use Rattle.eos_notes.specs.GroupTallies.{visible_below, source_tally, group_tally}

@@ -1,6 +1,5 @@
 -- The faults of partitions, of one after the other, are all that stand in them, in order.
-use Rattle.std.proofs.Common.{◌≡◌, ℕ, ◌+◌, ◌<◌, ◌≤◌, List, [], ◌∷◌, ◌++◌, length, drop, get_or, refl, sym, ap, subst, ◌∙◌, inl, inr, ◌⊎◌, append_assoc}
-use Rattle.std.proofs.lemmas.List.{append-nil, drop_all, drop_more}
+use Rattle.std.proofs.Common.{◌≡◌, List, [], ◌∷◌, ◌++◌, sym, ap, subst, ◌∙◌, inl, inr, ◌⊎◌}
 use Rattle.std.proofs.lemmas.Cmp.{tied_itself}
 use Rattle.std.proofs.lemmas.Map.Keys.{sorted_head, sorted_tail}
 use Rattle.std.specs.List.Sorted.{IsStrictlySortedBy}
@@ -29,23 +28,6 @@ use Rattle.eos_source_check.specs.steps.InPartitions.{AreFaultsIn}
 use Rattle.eos_source_check.proofs.RisingLists.{rises_joined, rises_in}
 
 -- ---- one partition after the other
-
--- the first partitions, so many of them, have these
-abbrev pub AreFaultsSoFar : List Partition → ℕ → List PartitionFault → Type 0
-AreFaultsSoFar ps i list = (others : List PartitionFault) → AreFaultsIn (drop i ps) others → AreFaultsIn ps (list ++ others)
-
-pub none_so_far : (ps : List Partition) → AreFaultsSoFar ps 0 []
-none_so_far ps = λ others k. k
-
-pub more_so_far : (ps : List Partition) (i : ℕ) (p : Partition) (list more all : List PartitionFault) → i < length ps → p ≡ get_or ps i p → AreFaultsSoFar ps i list → AreFaultsOf p more → all ≡ list ++ more → AreFaultsSoFar ps (i + 1) all
-more_so_far ps i p list more all lt is so_far here e = λ others k.
-    let left : p ∷ drop (i + 1) ps ≡ drop i ps = sym (drop_more ps i p lt ∙ ap (λ s. s ∷ drop (i + 1) ps) (sym is)) in
-    let there : AreFaultsIn (drop i ps) (more ++ others) = subst (λ qs. AreFaultsIn qs (more ++ others)) left (more, others, here, refl, k) in
-    subst (AreFaultsIn ps) (sym (append_assoc list more others) ∙ ap (λ z. z ++ others) (sym e)) (so_far (more ++ others) there)
-
-pub all_so_far : (ps : List Partition) (i : ℕ) (list : List PartitionFault) → length ps ≤ i → AreFaultsSoFar ps i list → AreFaultsIn ps list
-all_so_far ps i list le so_far =
-    subst (AreFaultsIn ps) (append-nil list) (so_far [] (subst (λ qs. AreFaultsIn qs []) (sym (drop_all i ps le)) refl))
 
 -- ---- what they are
 

@@ -78,9 +78,6 @@ abbrev pub Passed : (ℕ → Known) → List Partition → List (Option Partitio
 Passed known shapes found i list = (more : List (Option Partition)) (others : List PartitionFault) → AreFaultsAgain known (first_of shapes i) (drop i shapes) (drop i found) more others
     → AreListedAgain known shapes found (list ++ others)
 
-pub none_passed : (known : ℕ → Known) (shapes : List Partition) (found : List (Option PartitionFault)) → Passed known shapes found 0 []
-none_passed known shapes found = λ more others h. record { again = more; faults = h }
-
 module _ (known : ℕ → Known) (shapes : List Partition) (found : List (Option PartitionFault)) (i : ℕ) (p : Partition) (lt : i < length shapes) (is : p ≡ get_or shapes i p) where
   left : drop i shapes ≡ p ∷ drop (i + 1) shapes
   left = drop_more shapes i p lt ∙ ap (λ (s : Partition). s ∷ drop (i + 1) shapes) (sym is)

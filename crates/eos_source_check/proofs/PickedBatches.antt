@@ -1,15 +1,13 @@
 -- Batches that are looked for in a segment's bytes, chunk by chunk.
-use Rattle.std.proofs.Common.{◌≡◌, ◌⊎◌, ℕ, zero, suc, ◌+◌, ◌-◌, ◌<◌, ◌≤◌, List, [], ◌∷◌, ◌++◌, length, map, take, drop, get_or, Option, Some, None, true, false, Result, refl, sym, ap, subst, ◌∙◌, inl, inr, arith, drop-drop, is_some}
+use Rattle.std.proofs.Common.{◌≡◌, ◌⊎◌, ℕ, zero, suc, ◌+◌, ◌-◌, ◌<◌, ◌≤◌, List, [], ◌∷◌, ◌++◌, length, map, take, drop, get_or, Option, Some, None, true, refl, sym, ap, subst, ◌∙◌, inl, inr, arith, drop-drop, is_some}
 use Rattle.std.specs.Prelude.{slice_get, slice_set}
-use Rattle.std.proofs.lemmas.List.{length-append, length-drop, length-map, drop_all, drop-append-le, take_all}
+use Rattle.std.proofs.lemmas.List.{length-map, drop_all, drop-append-le, take_all}
 use Rattle.eos_base.specs.Members.{Has}
 use Rattle.eos_batch.specs.declared.batch.Batch.{Batch}
-use Rattle.eos_batch.specs.declared.fault.BatchFault.{BatchFault}
 use Rattle.eos_batch.specs.Reading.{batch_at}
 use Rattle.eos_fold.proofs.MoreBytes.{batch_more, batch_none}
-use Rattle.eos_source_check.specs.declared.picked.Picking.{Picking}
 use Rattle.eos_source_check.specs.steps.Picking.{told_of, told_at}
-use Rattle.eos_source_check.specs.steps.Picking.{IsAhead, IsAheadIf, AreAhead, IsToldAt, IsPickedAt, ArePickedSoFar, ArePickedAt, IsPicking, mixed}
+use Rattle.eos_source_check.specs.steps.Picking.{IsAheadIf, AreAhead, IsToldAt, IsPickedAt, ArePickedSoFar, ArePickedAt, mixed}
 
 -- ---- what more bytes tell
 
@@ -48,11 +46,6 @@ pub told_none : (passed byte at : ℕ) (buffer : List ℕ) → at ≡ byte - pas
 told_none passed byte at buffer is past = λ bytes here ahead.
     sym (ap (λ xs. told_of (batch_at xs)) (sym (there passed byte at buffer bytes is here ahead)) ∙ none_past buffer at past)
 
-pub told_read : (passed byte at : ℕ) (buffer : List ℕ) (read : Result (Batch × ℕ) BatchFault) (told : Option (Option Batch)) → at ≡ byte - passed → batch_at (drop at buffer) ≡ read → told ≡ told_of read
-    → IsToldAt passed buffer (Some byte) told
-told_read passed byte at buffer read told is are of = λ bytes here ahead.
-    of ∙ (ap told_of (sym are) ∙ ap (λ xs. told_of (batch_at xs)) (there passed byte at buffer bytes is here ahead))
-
 -- it was known
 pub picked_was : (passed taken : ℕ) (buffer : List ℕ) (byte : Option ℕ) (old : Option (Option Batch)) → true ≡ is_some old → IsPickedAt passed buffer byte old old taken
 picked_was passed taken buffer byte old some = λ fed more here is ahead.
@@ -63,24 +56,6 @@ picked_was passed taken buffer byte old some = λ fed more here is ahead.
     not_none : (o : Option (Option Batch)) → true ≡ is_some o → o ≡ None → ⊥
     not_none None some none = cc some
     not_none (Some x) some none = some_none x none
-
--- it wasn't, and these bytes are asked
-pub picked_now : (passed taken : ℕ) (buffer : List ℕ) (byte : Option ℕ) (old new : Option (Option Batch)) → false ≡ is_some old → IsToldAt passed buffer byte new → ((new ≡ None → ⊥) ⊎ (IsAhead passed byte → IsAhead (passed + taken) byte))
-    → IsPickedAt passed buffer byte old new taken
-picked_now passed taken buffer byte old new none told further = λ fed more here is ahead.
-    let unknown : told_at fed byte ≡ None = sym is ∙ is_none old none in
-    let at = ahead unknown in
-    let now : new ≡ told_at (fed ++ more) byte = told (fed ++ more) here at in (
-      now,
-      λ still. elim further [
-        | inl known ↦ absurd (known (now ∙ still))
-        | inr on ↦ on at
-      ],
-    )
-  where
-    is_none : (o : Option (Option Batch)) → false ≡ is_some o → o ≡ None
-    is_none None e = refl
-    is_none (Some x) e = absurd cc
 
 -- ---- one after the other
 
@@ -141,13 +116,6 @@ less_ahead : (bytes : List ℕ) (m n : ℕ) (byte : Option ℕ) → m ≤ n → 
 less_ahead bytes m n None le ahead = λ none. tt
 less_ahead bytes m n (Some byte) le ahead = λ none. let at = ahead none in omega (arith, at, le)
 
-pub none_picked : (passed taken : ℕ) (buffer : List ℕ) (wanted : List (Option ℕ)) (old : List (Option (Option Batch))) → ArePickedSoFar 0 passed buffer wanted old old taken
-none_picked passed taken buffer wanted old = λ fed more here are ahead. (are, λ byte has. absurd (none wanted byte has))
-  where
-    none : (ws : List (Option ℕ)) (byte : Option ℕ) → Has (take 0 ws) byte → ⊥
-    none [] byte has = has
-    none (w ∷ ws) byte has = has
-
 pub one_picked : (i passed taken one less : ℕ) (buffer : List ℕ) (wanted : List (Option ℕ)) (old now after : List (Option (Option Batch))) (asked : Option ℕ) (was told : Option (Option Batch)) → i < length now → was ≡ get_or now i was
     → ((byte : Option ℕ) → slice_get wanted i ≡ Some byte → asked ≡ byte) → IsPickedAt passed buffer asked was told one → after ≡ slice_set now i told → less ≤ taken → less ≤ one
     → ArePickedSoFar i passed buffer wanted old now taken → ArePickedSoFar (i + 1) passed buffer wanted old after less
@@ -177,40 +145,6 @@ all_picked i passed taken buffer wanted old new done so = λ fed more here are a
     (s.0 ∙ all_mixed all fed wanted i le, subst (AreAhead all (passed + taken)) (take_all i wanted le) s.1)
 
 -- ---- a chunk
-
-told_nothing : (wanted : List (Option ℕ)) (byte : Option ℕ) → IsAheadIf [] 0 byte
-told_nothing wanted None = λ none. tt
-told_nothing wanted (Some byte) = λ none. omega arith
-
-pub picking_none : (wanted : List (Option ℕ)) (w : Picking) → w.passed ≡ 0 → w.found.items ≡ map (told_at []) wanted → IsPicking wanted [] [] w
-picking_none wanted w passed found = record {
-  taken = omega (arith, passed);
-  waits = sym (drop_none w.passed);
-  found = found;
-  ahead = λ byte has. subst (λ (n : ℕ). IsAheadIf [] n byte) (sym passed) (told_nothing wanted byte);
-}
-  where
-    drop_none : (n : ℕ) → ◌≡◌ {A = List ℕ} (drop n []) []
-    drop_none zero = refl
-    drop_none (suc n) = refl
-
-pub picking_on : (wanted : List (Option ℕ)) (fed waiting more buffer : List ℕ) (v w : Picking) (taken : ℕ) → buffer ≡ waiting ++ more → taken ≤ length buffer → w.passed ≡ v.passed + taken
-    → ArePickedAt v.passed buffer wanted v.found.items w.found.items taken → IsPicking wanted fed waiting v → IsPicking wanted (fed ++ more) (drop taken buffer) w
-picking_on wanted fed waiting more buffer v w taken is within passed picked p =
-    let t = p.taken in
-    let inside : v.passed ≤ length fed = omega (arith, t) in
-    let here : buffer ≡ drop v.passed (fed ++ more) = is ∙ (ap (λ (xs : List ℕ). xs ++ more) p.waits ∙ sym (drop-append-le v.passed fed more inside)) in
-    let a = length-append fed more in
-    let b = length-append waiting more in
-    let c = ap length is in
-    let d = length-drop taken buffer in
-    let now = picked fed more here p.found p.ahead in
-    record {
-      taken = omega (arith, t, a, b, c, d, within, passed);
-      waits = ap (drop taken) here ∙ (drop-drop taken v.passed (fed ++ more) ∙ ap (λ (n : ℕ). drop n (fed ++ more)) (sym passed));
-      found = now.0;
-      ahead = subst (λ (n : ℕ). AreAhead (fed ++ more) n wanted) (sym passed) now.1;
-    }
 
 -- ---- before any byte was read
 

@@ -3,7 +3,7 @@ use Rattle.std.proofs.Common.{◌≡◌, ◌∙◌, ◌<◌, ◌≤◌, ℕ, zer
 use Rattle.std.specs.Prelude.{slice_get, slice_set, nat_lt, if◌then◌else◌}
 use Rattle.std.specs.Option.{option_flatten}
 use Rattle.std.specs.Ordering.{int_eq}
-use Rattle.std.proofs.lemmas.List.{take_more, take_all, length-take-le, length-map}
+use Rattle.std.proofs.lemmas.List.{take_more, take_all, length-take-le}
 use Rattle.eos_batch.specs.Reading.{batch_at}
 use Rattle.eos_batch.specs.declared.batch.Batch.{Batch}
 use Rattle.eos_batch.specs.declared.fault.BatchFault.{BatchFault}
@@ -20,7 +20,7 @@ use Rattle.eos_source_check.specs.declared.picks.Picked.{Picked}
 use Rattle.eos_source_check.specs.steps.Picking.{told_of, told_at}
 use Rattle.eos_source_check.specs.steps.PicksAgain.{byte_in, found_or, found_front, AreOfLog, ArePicksAgain, IsPickedAgain}
 use Rattle.eos_source_check.proofs.LogsAgain.{named_again, one_more}
-use Rattle.eos_source_check.proofs.PickedBatches.{none_past, length_set, there_is, same_read}
+use Rattle.eos_source_check.proofs.PickedBatches.{none_past, there_is, same_read}
 
 -- ---- what a segment tells is put
 
@@ -158,12 +158,6 @@ none_more places i now grown lt is more =
     one_longer (p ∷ ps) zero lt = ap (λ (x : Option (Option Batch)). x ∷ []) (sym (none_at p))
     one_longer (p ∷ ps) (suc n) lt = ap (λ (l : List (Option (Option Batch))). found_in [] p ∷ l) (one_longer ps n (omega (arith, lt)))
 
-pub no_picks : (known : ℕ → Known) (first : ℕ) (names : List Segment) (places : List (Option Placed)) (found : List (Option (Option Batch))) → found ≡ map (found_in []) places → ArePicksAgain known first (take 0 names) places found
-no_picks known first names places found none = record { segments = []; again = tt; are = none }
-
-pub as_many : (known : ℕ → Known) (first : ℕ) (names : List Segment) (places : List (Option Placed)) (found : List (Option (Option Batch))) (base : ℤ) (wanted : List (Option ℕ)) → ArePicksAgain known first names places found → wanted ≡ map (byte_in base) places → length wanted ≡ length found
-as_many known first names places found base wanted h is = ap length is ∙ (length-map places (byte_in base) ∙ sym (ap length h.are ∙ length-map places (found_in h.segments)))
-
 pub one_pick : (known : ℕ → Known) (first : ℕ) (names : List Segment) (i : ℕ) (name : Segment) (places : List (Option Placed)) (before after told : List (Option (Option Batch))) (wanted : List (Option ℕ)) (base : ℤ) → i < length names → name ≡ get_or names i name
     → wanted ≡ map (byte_in base) places → base ≡ name.base → AreOfLog (known (first + i)) wanted told → after ≡ found_front (length before) wanted told before → ArePicksAgain known first (take i names) places before → ArePicksAgain known first (take (i + 1) names) places after
 one_pick known first names i name places before after told wanted base lt is by_base own log put h =
@@ -193,9 +187,6 @@ all_picks known first shape names i places found of le h =
     }
 
 -- ---- of the partition of a name
-
-pub none_picked : (known : ℕ → Known) (shapes : List Partition) (name : PartitionName) (places : List (Option Placed)) → IsNamedAgain known 0 shapes name None → ArePickedNamed known shapes name places None
-none_picked known shapes name places none = record { read = None; again = none; are = tt }
 
 pub picked_named : (known : ℕ → Known) (shapes : List Partition) (name : PartitionName) (places : List (Option Placed)) (first : ℕ) (shape : Partition) (picked : Picked) (p : IsPickedAgain known first shape places picked.found.items)
     → IsNamedAgain known 0 shapes name (Some p.partition) → ArePickedNamed known shapes name places (Some picked)

@@ -1,9 +1,9 @@
 -- Why no answer comes, by the pieces of a source.
-use Rattle.std.proofs.Common.{◌≡◌, inl, inr, ℕ, Bool, true, List, length, Option, refl, sym, subst}
+use Rattle.std.proofs.Common.{inr, ℕ, true, List, length, Option, refl}
 use Rattle.eos_evidence.specs.declared.partition.Partition.{Partition}
 use Rattle.eos_evidence.specs.Evidence.{segments_of}
 use Rattle.eos_touch.specs.declared.fault.PartitionFault.{PartitionFault}
-use Rattle.eos_source.specs.Refusals.{AreOpened, IsRefusal}
+use Rattle.eos_source.specs.Refusals.{AreOpened}
 use Rattle.eos_source.specs.Said.{Known}
 use Rattle.eos_source_check.specs.Refusals.{IsEarned, IsUntold}
 use Rattle.eos_source_check.specs.declared.fault.Unlisted.{Unlisted}
@@ -16,11 +16,3 @@ earned_untold known outcomes IsMemory shapes found (unlisted.Refused fault) open
 earned_untold known outcomes IsMemory shapes found (unlisted.Fold piece) opened e = (refl, opened, e)
 earned_untold known outcomes IsMemory shapes found (unlisted.Changed piece) opened e = (refl, opened)
 earned_untold known outcomes IsMemory shapes found unlisted.OutOfMemory opened e = tt
-
-pub source_untold : {F : Type 0} (outcomes : ℕ → Option F → Type 0) (IsMemory : F → Type 0) (pieces : ℕ) (all : Bool) (why : F) → IsRefusal outcomes IsMemory pieces why
-    → IsUntold outcomes IsMemory pieces all (unlisted.Refused why)
-source_untold outcomes IsMemory pieces all why h = inl h
-
-pub list_untold : {F : Type 0} (outcomes : ℕ → Option F → Type 0) (IsMemory : F → Type 0) (pieces : ℕ) (all : Bool) (why : Unlisted F) → all ≡ true → IsUntold outcomes IsMemory pieces true why
-    → IsUntold outcomes IsMemory pieces all why
-list_untold outcomes IsMemory pieces all why is h = subst (λ (a : Bool). IsUntold outcomes IsMemory pieces a why) (sym is) h

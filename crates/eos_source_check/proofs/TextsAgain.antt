@@ -18,7 +18,7 @@ use Rattle.eos_kept.specs.Parts.{IsTold}
 use Rattle.eos_kept.proofs.PartsHeld.{are_of, checked_so, were_kept}
 use Rattle.eos_reading.specs.declared.wanted.Wanted.TheVariants.{Texts}
 use Rattle.eos_source.specs.Said.{Known}
-use Rattle.eos_source_check.specs.Again.{IsLogAgain, AreLogsAgain, AreTextsNamed, IsNamedAgain}
+use Rattle.eos_source_check.specs.Again.{IsLogAgain, AreLogsAgain, AreTextsNamed}
 use Rattle.eos_source_check.specs.steps.FaultsAgain.{IsLogOf}
 use Rattle.eos_source_check.specs.steps.FoldsAgain.{IsFoundAt}
 use Rattle.eos_source_check.specs.steps.TextsAgain.{texts_asked, IsTextAgain, AreTextsAgain}
@@ -99,6 +99,3 @@ is_partition e shapes i p same is lt at = go shapes i (subst (AllByRecursion IsP
     go [] k all lt at = absurd (omega (arith, lt))
     go (q ∷ qs) zero all lt at = subst IsPartition (sym at) all.0
     go (q ∷ qs) (suc k) all lt at = go qs k all.1 (omega (arith, lt)) at
-
-pub none_named : (known : ℕ → Known) (partitions : List Partition) (name : PartitionName) → IsNamedAgain known 0 partitions name None → AreTextsNamed known partitions name None
-none_named known partitions name none = record { read = None; again = none; are = tt }

@@ -18,7 +18,7 @@ use Rattle.eos_sought.specs.declared.wanted.Wanted.TheVariants.{Holding}
 use Rattle.eos_sought.specs.Places.{IsReadAt, IsRun, IsEnd, byte_after, offset_after}
 use Rattle.eos_sought.specs.Times.{time_read, time_in_bytes}
 use Rattle.eos_sought.specs.Wanted.{is_wanted}
-use Rattle.eos_source_check.specs.Timed.{timed, timed_by, all_timed_by, AreTimesIn}
+use Rattle.eos_source_check.specs.Timed.{timed, timed_by, all_timed_by}
 use Rattle.eos_source_check.specs.declared.timing.Timing.{Timing}
 use Rattle.eos_source_check.specs.steps.Timing.{AskedView, EndsSo, IsTimedOn, WaitsSo, IsTiming, IsTimedBy}
 

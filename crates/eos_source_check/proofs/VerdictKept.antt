@@ -1,5 +1,5 @@
 -- The verdict that is judged of kept logs is that of the evidence whose logs they are kept of.
-use Rattle.std.proofs.Common.{◌≡◌, ℕ, List, map, sym, subst, ap, ◌∙◌}
+use Rattle.std.proofs.Common.{◌≡◌, ℕ, map, sym, subst, ap, ◌∙◌}
 use Rattle.eos_evidence.specs.Evidence.{EvidenceParts}
 use Rattle.eos_evidence.specs.SpecFields.{SpecFields}
 use Rattle.eos_check.specs.Judged.{IsJudged}

@@ -1,7 +1,7 @@
 -- The verdict that is worked out of kept logs: there is what each piece said, and it is the verdict of each evidence of this shape
 -- whose segments are such; these are what is wanted of its logs, this is what is counted of its segments, and these are the offsets at
 -- which their leader epochs change.
-use Rattle.std.specs.Prelude.{◌≡◌, ℕ, List, Bool, is_some}
+use Rattle.std.specs.Prelude.{ℕ, List, Bool, is_some}
 use Rattle.eos_evidence.specs.Evidence.{EvidenceParts, IsEvidence}
 use Rattle.eos_evidence.specs.SpecFields.{SpecFields}
 use Rattle.eos_commits.specs.Faults.{AreInOrder}

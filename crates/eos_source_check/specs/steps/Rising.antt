@@ -1,5 +1,5 @@
 -- The times of a segment's records at offsets that rise.
-use Rattle.std.specs.Prelude.{◌≡◌, ◌<◌, ◌≤◌, ◌-◌, ℕ, ℤ, List, [], length, if◌then◌else◌, slice_get, slice_index}
+use Rattle.std.specs.Prelude.{◌<◌, ◌≤◌, ◌-◌, ℕ, ℤ, List, [], length, if◌then◌else◌, slice_get, slice_index}
 use Rattle.eos_batch.specs.declared.batch.Batch.{Batch}
 use Rattle.eos_sought.specs.declared.wanted.Standing.{Standing}
 use Rattle.eos_sought.specs.declared.wanted.Wanted.TheVariants.{Holding}

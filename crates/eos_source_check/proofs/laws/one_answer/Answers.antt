@@ -1,4 +1,4 @@
-use Rattle.std.proofs.Common.{◌≡◌, length}
+use Rattle.std.proofs.Common.{length}
 use Rattle.eos_evidence.specs.Evidence.{segments_of}
 use Rattle.eos_source_check.proofs.SameShape.{same_shape, as_known}
 use Rattle.eos_source_check.proofs.laws.one_answer.Goals as goal
