@@ -1,44 +1,25 @@
 -- Which partitions are asked for, one folder and one segment after the other.
-use Rattle.std.proofs.Common.{◌≡◌, ◌<◌, ◌+◌, ◌||◌, ◌==◌, ◌++◌, ◌∷◌, [], ℕ, ℤ, List, Bool, true, false, length, get_or, take, refl, sym, ap, ◌∙◌, subst, append_assoc, append-nil, slice_index_or, IsPermutation}
+use Rattle.std.proofs.Common.{◌≡◌, ◌<◌, ◌+◌, ◌||◌, ◌++◌, ◌∷◌, [], ℕ, ℤ, List, Bool, true, length, get_or, take, refl, sym, ap, ◌∙◌, subst, append_assoc, append-nil, slice_index_or, IsPermutation}
 use Rattle.std.proofs.lemmas.List.{take_more}
-use Rattle.std.specs.BTreeSet.{BTreeSet, Updates, IsEmpty}
+use Rattle.std.specs.BTreeSet.{BTreeSet, IsEmpty}
 use Rattle.eos_base.specs.Members.{is_found}
 use Rattle.eos_base.specs.PartitionNames.{name_cmp}
 use Rattle.eos_base.specs.declared.partition_name.PartitionName.{PartitionName}
-use Rattle.eos_disk.specs.Entries.{Entry, HasBytes, HasNames}
+use Rattle.eos_disk.specs.Entries.{Entry, HasBytes}
 use Rattle.eos_evidence.specs.declared.application.App.{App}
 use Rattle.eos_evidence.specs.declared.ends.End.{End}
 use Rattle.eos_disk.specs.declared.names.Form.TheVariants.{Log}
 use Rattle.eos_disk.specs.Paths.{partition_path, file_path, path_of_end}
 use Rattle.eos_disk.specs.Shapes.{AreLogsAt}
 use Rattle.eos_manifest.specs.Listing.{IsListing}
-use Rattle.eos_manifest.specs.Manifests.{is_judged}
-use Rattle.eos_commands.specs.Copies.{names_in, AreFoldersAt, path_of_name, AreListedBy, AreListedAt, is_states, own_name, AreAsked, AreRequired}
+use Rattle.eos_commands.specs.Copies.{path_of_name, AreListedBy, AreListedAt, is_states, own_name, AreAsked, AreRequired}
 use Rattle.eos_commands.specs.steps.Names.{Gains}
-use Rattle.eos_commands.proofs.NameSets.{gains_nothing, gains_one, row_found, empty_lacks}
-
-pub folders_are : (holds : List ℕ → Entry) (folder : List ℕ) (listed : List (List ℕ)) (names sorted : List PartitionName) → HasNames (holds folder) listed → names ≡ names_in listed
-    → IsPermutation names sorted → AreFoldersAt holds folder sorted
-folders_are holds folder listed names sorted stands is same = record {
-  listed = listed;
-  stands = stands;
-  are = subst (λ (xs : List PartitionName). IsPermutation xs sorted) is same;
-}
+use Rattle.eos_commands.proofs.NameSets.{row_found, empty_lacks}
 
 pub path_same : (folder : List ℕ) (e : End) (name : PartitionName) → e.topic ≡ name.topic → e.partition ≡ name.partition → path_of_end folder e ≡ path_of_name folder name
 path_same folder e name p q = λ i. partition_path folder (p i) (q i)
 
 -- ---- of a partition
-
-pub own_in : (apps : List App) (name key : PartitionName) (old new : BTreeSet PartitionName) → (length apps == 0 || is_judged apps name.topic) ≡ true → key ≡ name → Updates name_cmp old new key true
-    → Gains old (own_name apps name) new
-own_in apps name key old new so is updates =
-    subst (λ (xs : List PartitionName). Gains old xs new) (yes_own apps name so) (subst (λ (k : PartitionName). Gains old (k ∷ []) new) is (gains_one old new key updates)) where
-      yes_own : (apps : List App) (name : PartitionName) → (length apps == 0 || is_judged apps name.topic) ≡ true → name ∷ [] ≡ own_name apps name
-      yes_own apps name h = rw (h) refl
-
-pub own_out : (apps : List App) (name : PartitionName) (old : BTreeSet PartitionName) → (length apps == 0 || is_judged apps name.topic) ≡ false → Gains old (own_name apps name) old
-own_out apps name old not_so = rw (not_so) (gains_nothing old)
 
 -- ---- one segment more
 

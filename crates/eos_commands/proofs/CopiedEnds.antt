@@ -20,9 +20,6 @@ use Rattle.eos_commands.proofs.Asked.{path_same}
 abbrev pub GoesOn : (List ℕ → Entry) → List ℕ → List ℤ → ℕ → List ℤ → Type 0
 GoesOn holds path bases next rest = (end : ℕ) → EndsAt holds path next rest end → EndsAt holds path 0 bases end
 
-pub begins : (holds : List ℕ → Entry) (path : List ℕ) (bases : List ℤ) → GoesOn holds path bases 0 bases
-begins holds path bases = λ end h. h
-
 pub stops_before : (holds : List ℕ → Entry) (path : List ℕ) (bases later : List ℤ) (base : ℤ) (next : ℕ) → GoesOn holds path bases next (base ∷ later) → base ≢ pos next → EndsAt holds path 0 bases next
 stops_before holds path bases later base next on other = on next (inl (other, refl))
 

@@ -1,5 +1,5 @@
 -- How a fold's text is to a log, of what was read.
-use Rattle.std.proofs.Common.{◌≡◌, ◌≢◌, ℕ, List, [], ◌++◌, Option, None, Some, IfSome, option_map, take, drop, refl, sym, ap, ◌∙◌, subst, append-nil}
+use Rattle.std.proofs.Common.{◌≡◌, ◌≢◌, ℕ, List, [], ◌++◌, Option, None, Some, IfSome, option_map, take, drop, refl, sym, ◌∙◌, subst}
 use Rattle.std.proofs.lemmas.List.{take-append-drop}
 use Rattle.std.specs.Io.KnownBytes.{Consumes, IsAtEnd}
 use Rattle.eos_disk.specs.Entries.{Entry, Unknown, Absent, File, Folder, Leaves, HasBytes}
@@ -11,7 +11,7 @@ use Rattle.eos_disk.proofs.WholeFiles.{all_left, left_stands}
 use Rattle.eos_disk.specs.Paths.{segment_path}
 use Rattle.eos_disk.specs.declared.names.Form.TheVariants.{Log}
 use Rattle.eos_reading.specs.declared.wanted.Wanted.{Wanted}
-use Rattle.eos_commands.specs.Verifying.{with_bytes, IsFoldText, HasFold, IsOfFront, Differs, IsLike}
+use Rattle.eos_commands.specs.Verifying.{with_bytes, IsFoldText, HasFold, IsOfFront, IsLike}
 use Rattle.eos_commands.specs.declared.found.Likeness.TheVariants.{Right, Stale, Forged}
 
 -- ---- the fold of what was read

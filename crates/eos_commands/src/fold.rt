@@ -15,7 +15,7 @@ pub fn fold_partitions(rt: &HostRuntime, words: &Fold<'_>) -> u8 {
     };
     match fold_folders(rt.alloc(), &mut HostDisk { rt }, given) {
         Ok(folded) => say(rt, folded),
-        Err(fault) => refuse(rt, words, fault),
+        Err(fault) => refuse(rt, words, &fault),
     }
 }
 
@@ -28,12 +28,12 @@ fn say(rt: &HostRuntime, folded: Folded) -> u8 {
 }
 
 /// Says why not all segments were folded, and gives the exit status.
-fn refuse(rt: &HostRuntime, words: &Fold<'_>, fault: FoldingFault<'_>) -> u8 {
+fn refuse(rt: &HostRuntime, words: &Fold<'_>, fault: &FoldingFault<'_>) -> u8 {
     match fault {
         FoldingFault::Unread(FolderFault::Manifest(fault, cause)) => {
-            end(rt, Ending::Refused(words.manifest, fault.name(), &cause))
+            end(rt, Ending::Refused(words.manifest, fault.name(), cause))
         }
-        FoldingFault::Unread(fault) => end_unread(rt, Subject::Only, &fault),
+        FoldingFault::Unread(fault) => end_unread(rt, Subject::Only, fault),
         FoldingFault::NoName(path) => end(
             rt,
             Ending::Unfit(path, "not named TOPIC-N, as the folder of a partition"),
@@ -46,7 +46,7 @@ fn refuse(rt: &HostRuntime, words: &Fold<'_>, fault: FoldingFault<'_>) -> u8 {
             rt,
             Ending::Unfit(path, "another folder of this partition is given"),
         ),
-        FoldingFault::CannotWrite(path, why) => end_unchanged(rt, &path, why),
+        FoldingFault::CannotWrite(path, why) => end_unchanged(rt, path, *why),
         FoldingFault::OutOfMemory => end(rt, Ending::OutOfMemory),
     }
 }

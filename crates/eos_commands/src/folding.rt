@@ -4,7 +4,10 @@ ghost use Rattle.std.specs.Prelude.{◌≡◌, ◌⊎◌, ℕ, List, map, Ok, If
 ghost use Rattle.eos_disk.specs.Entries.{HasBytes};
 ghost use Rattle.eos_evidence.specs.Manifest.{spec_said_by};
 ghost use Rattle.eos_evidence.specs.SpecFields.{SpecFields};
+ghost use Rattle.eos_fold_file.specs.declared.file.FoldFile.{FoldFile};
+ghost use Rattle.eos_fold_file.specs.Files.{fold_text};
 ghost use Rattle.eos_fold_file.specs.Legal.{IsRight};
+ghost use Rattle.eos_fold_file.specs.Reading.{read_fold as fold_read_of};
 ghost use Rattle.eos_disk.specs.Refusals.{RefusesFile};
 ghost use Rattle.eos_commits.specs.SourceTopics.{AreSourceTopics};
 ghost use Rattle.eos_commands.specs.Folding.{item_of, items_in, items_of, AreFoldersAt, IsFoldAt, IsFoldPut, IsFoldLeft, Folded as AreFolded, FoldedInPart};
@@ -164,11 +167,27 @@ fn fold_segment<'a, D: DiskMut>(
     ensures err { OnErr result (IsFoldLeft (D.holds disk.old) asked.entry.out.now (item_of asked.entry.wanted folder.now base) (D.holds disk.new)) }
     ensures refused { IfErr result (RefusesLog (D.holds disk.old) asked.entry.topics.now asked.entry.out.now (item_of asked.entry.wanted folder.now base)) }
 {
-    let fold = read_fold(alloc, &*disk, folder, base, asked)?;
-    let bytes = encode_fold(alloc, &fold)?;
+    let (text, size) = encoded(alloc, &*disk, folder, base, asked)?;
     let name = folder.segment(base)?;
-    write_fold(alloc, disk, asked.out, &name, bytes.as_slice())?;
-    Ok(fold.bytes)
+    write_fold(alloc, disk, asked.out, &name, text.as_slice())?;
+    Ok(size)
+}
+
+/// The text of the fold of the segment of a partition's folder with this first offset, and the number of the segment's bytes.
+fn encoded<'a, D: Disk>(
+    alloc: Global,
+    disk: &D,
+    folder: &PartitionFolder<'a>,
+    base: i64,
+    asked: Asked<'_>,
+) -> Result<(Vec<u8>, u64), FoldingFault<'a>>
+    ensures fold { IfOk result (λ made. (fold : FoldFile) × IsFoldAt (D.holds disk.now) asked.entry.topics.now (item_of asked.entry.wanted folder.now base) fold
+        × (made.0.items ≡ fold_text fold) × (fold_read_of made.0.items ≡ Ok fold)) }
+    ensures refused { IfErr result (IsUnreadLog (D.holds disk.now) (file_path folder.now.path.now base Log)) }
+{
+    let fold = read_fold(alloc, disk, folder, base, asked)?;
+    let bytes = encode_fold(alloc, &fold)?;
+    Ok((bytes, fold.bytes))
 }
 
 /// Why reading this file ended so.

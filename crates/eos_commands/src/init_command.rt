@@ -30,7 +30,7 @@ pub fn init_folder(rt: &HostRuntime, words: &Init<'_>) -> u8 {
     };
     match init(rt.alloc(), &mut HostDisk { rt }, given, &mut rt.reader()) {
         Ok(made) => tell(rt, &made),
-        Err(fault) => match explain(rt, words, fault) {
+        Err(fault) => match explain(rt, words, &fault) {
             Ok(status) => status,
             Err(_) => end(rt, Ending::OutOfMemory),
         },
@@ -54,15 +54,15 @@ fn tell(rt: &HostRuntime, made: &Made) -> u8 {
 }
 
 /// Says why no manifest was made.
-fn explain(rt: &HostRuntime, words: &Init<'_>, fault: InitFault) -> Result<u8, AllocError> {
+fn explain(rt: &HostRuntime, words: &Init<'_>, fault: &InitFault) -> Result<u8, AllocError> {
     let alloc = rt.alloc();
     let why = match fault {
         InitFault::ThereAlready(path) => {
             format!(in alloc; "cannot write {path}: it is there already")?
         }
         InitFault::App(at) => {
-            let word = if at < words.apps.len() {
-                words.apps[at]
+            let word = if *at < words.apps.len() {
+                words.apps[*at]
             } else {
                 ""
             };
@@ -73,10 +73,10 @@ fn explain(rt: &HostRuntime, words: &Init<'_>, fault: InitFault) -> Result<u8, A
             format!(in alloc; "line {number} of {file}: not TOPIC:PARTITION:OFFSET")?
         }
         InitFault::NoEnd(name) => {
-            let name = name_text(alloc, &name)?;
+            let name = name_text(alloc, name)?;
             format!(in alloc; "{name} has no end")?
         }
-        InitFault::Unread(fault) => return Ok(end_unread(rt, Subject::Only, &fault)),
+        InitFault::Unread(fault) => return Ok(end_unread(rt, Subject::Only, fault)),
         InitFault::CannotWrite(path) => return Ok(end(rt, Ending::CannotWrite(path.as_str()))),
         InitFault::Apps(SpecFault::Field) => String::from_str(alloc, DOUBLED_APPS)?,
         InitFault::Ends(SpecFault::Field) => String::from_str(alloc, DOUBLED_ENDS)?,

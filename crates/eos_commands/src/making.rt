@@ -1,8 +1,9 @@
 //! The manifest of a folder of copied logs, made of what the words give and what is in the folder.
 
-ghost use Rattle.std.specs.Prelude.{◌≡◌, ℕ, List, Err, IfOk, IfErr, OnOk, OnErr, string_bytes};
+ghost use Rattle.std.specs.Prelude.{◌≡◌, ℕ, List, Ok, Err, IfOk, IfErr, OnOk, OnErr, string_bytes};
 ghost use Rattle.std.specs.Io.KnownBytes.{Appends};
 ghost use Rattle.eos_disk.specs.Putting.{IsLeft};
+ghost use Rattle.eos_evidence.specs.Manifest.{spec_said_by};
 ghost use Rattle.eos_evidence.specs.SpecFields.{SpecFields};
 ghost use Rattle.eos_disk.specs.Paths.{manifest_path};
 ghost use Rattle.eos_commands.specs.InitRefusals.{RefusesMaking, RefusesInit};
@@ -59,11 +60,26 @@ pub fn init<D: DiskMut, R: Read>(
     if disk.stands(path.as_str()) {
         return Err(InitFault::ThereAlready(path));
     }
-    let Manifest { spec, notes } = manifest_of(alloc, &*disk, given, input)?;
+    let (text, made) = text_of(alloc, &*disk, given, input)?;
+    write_manifest(alloc, disk, path, text.as_slice())?;
+    Ok(made)
+}
+
+/// The text of the manifest that is asked for, and what is said of it.
+fn text_of<D: Disk, R: Read>(
+    alloc: Global,
+    disk: &D,
+    given: Given<'_>,
+    input: &mut R,
+) -> Result<(Vec<u8>, Made), InitFault>
+    ensures ok { IfOk result (λ made. (spec : SpecFields) × IsManifestFor given.entry (D.holds disk.now) (R.remaining input.old) (R.remaining input.new) spec
+        × (spec_said_by made.0.items ≡ Ok spec) × (string_bytes made.1.line ≡ wrote_line spec)) }
+    ensures refused { IfErr result (RefusesMaking given.entry (D.holds disk.now) (R.remaining input.old) (R.remaining input.new)) }
+{
+    let Manifest { spec, notes } = manifest_of(alloc, disk, given, input)?;
     let line = line_of(alloc, &spec)?;
     let text = spec_text(alloc, &spec)?;
-    write_manifest(alloc, disk, path, text.as_slice())?;
-    Ok(Made { line, notes })
+    Ok((text, Made { line, notes }))
 }
 
 /// The manifest that is asked for, and what is to be told beside.
