@@ -54,10 +54,6 @@ find_or {X} P dec (y ∷ ys) = elim (dec y) [
     past n m x (inl e) p = n (subst P (sym e) p)
     past n m x (inr h) p = m x h p
 
--- whether one of the list has it
-pub some_decided : {X : Type 0} (P : X → Type 0) (dec : (x : X) → Decided (P x)) (xs : List X) → Decided ((x : X) × Has xs x × P x)
-some_decided P dec xs = elim (find_or P dec xs) [ inl r ↦ inl r | inr n ↦ inr (λ r. n r.0 r.1 r.2) ]
-
 pub has_decided : {X : Type 0} → ((a b : X) → Decided (a ≡ b)) → (xs : List X) (x : X) → Decided (Has xs x)
 has_decided dec [] x = inr (λ h. h)
 has_decided {X} dec (y ∷ ys) x = elim (dec y x) [

@@ -1,8 +1,7 @@
 -- Orders whose ties are equal values.
-use Rattle.std.proofs.Common.{◌≡◌, [], ◌∷◌, Option, Some, None, refl, sym, ap, true}
+use Rattle.std.proofs.Common.{◌≡◌, [], ◌∷◌, Some, None, refl, sym, ap, true}
 use Rattle.std.specs.Option.{option_cmp}
-use Rattle.std.specs.Ordering.{nat_cmp, int_cmp, is_eq, ordering_then, ordering_reverse}
-use Rattle.std.specs.Cmp.{IsTotalOrder}
+use Rattle.std.specs.Ordering.{nat_cmp, int_cmp, is_eq, ordering_then}
 use Rattle.std.specs.Cmp.Lexicographic.{slice_cmp}
 use Rattle.std.specs.declared.cmp.Ordering.{Ordering}
 use Rattle.std.specs.declared.cmp.Ordering.TheVariants.{Less, Equal, Greater}
@@ -36,33 +35,6 @@ option_exact cmp h None None e = refl
 option_exact cmp h None (Some y) e = absurd cc
 option_exact cmp h (Some x) None e = absurd cc
 option_exact cmp h (Some x) (Some y) e = ap Some (h x y e)
-
-pub option_total : {X : Type 0} {cmp : X → X → Ordering} → IsTotalOrder cmp → IsTotalOrder (option_cmp cmp)
-option_total {X} {cmp} o = record { antisymm = antisymm; trans = trans; congr = congr }
-  where
-    antisymm : (x y : Option X) → option_cmp cmp x y ≡ ordering_reverse (option_cmp cmp y x)
-    antisymm None None = refl
-    antisymm None (Some y) = refl
-    antisymm (Some x) None = refl
-    antisymm (Some x) (Some y) = o.antisymm x y
-
-    trans : (x y z : Option X) → option_cmp cmp x y ≡ Less → option_cmp cmp y z ≡ Less → option_cmp cmp x z ≡ Less
-    trans None y None p q = less_none y q
-      where
-        less_none : (y : Option X) → option_cmp cmp y None ≡ Less → Equal ≡ Less
-        less_none None q = q
-        less_none (Some y) q = absurd cc
-    trans None y (Some z) p q = refl
-    trans (Some x) None z p q = absurd cc
-    trans (Some x) (Some y) None p q = absurd cc
-    trans (Some x) (Some y) (Some z) p q = o.trans x y z p q
-
-    congr : (x y z : Option X) → option_cmp cmp x y ≡ Equal → option_cmp cmp x z ≡ option_cmp cmp y z
-    congr None None z e = refl
-    congr None (Some y) z e = absurd cc
-    congr (Some x) None z e = absurd cc
-    congr (Some x) (Some y) None e = refl
-    congr (Some x) (Some y) (Some z) e = o.congr x y z e
 
 -- a tie as a test
 pub is_tied : (o : Ordering) → is_eq o ≡ true → o ≡ Equal

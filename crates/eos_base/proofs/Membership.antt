@@ -76,11 +76,6 @@ filter_has {X} p (y ∷ ys) x h = elim (p y) as (λ b. p y ≡ b → Has (cond b
   | false ↦ λ q k. let ih = filter_has p ys x k in (inr ih.0, ih.1)
 ] refl h
 
--- a list without members
-pub no_members : {X : Type 0} (xs : List X) → ((x : X) → Has xs x → ⊥) → xs ≡ []
-no_members [] h = refl
-no_members (x ∷ xs) h = absurd (h x (inl refl))
-
 -- ---- what a look-up finds
 
 pub found_has : {X : Type 0} (cmp : X → X → Ordering) → IsExact cmp → (xs : List X) (k : X) → is_found cmp xs k ≡ true → Has xs k

@@ -1,9 +1,7 @@
 -- The faults of the internal logs' records by their numbers and in their order.
-use Rattle.std.proofs.Common.{◌≡◌, ℕ, zero, suc, List, [], ◌∷◌, refl}
-use Rattle.eos_base.specs.declared.record_fault.RecordFault.{RecordFault}
+use Rattle.std.proofs.Common.{ℕ, zero, suc, List, [], ◌∷◌, refl}
 use Rattle.eos_base.specs.declared.record_fault.RecordFault.TheVariants as records
 use Rattle.eos_base.specs.contracts.record_fault.RecordFaultOrd.TheImpl.{ghosts}
-use Rattle.eos_base.specs.FaultNames.{record_number}
 use Rattle.eos_base.specs.steps.Least.{IsExact}
 
 -- the n-th of a list, from 1, or else the given one
@@ -12,17 +10,6 @@ nth d [] n = d
 nth d (x ∷ xs) zero = d
 nth d (x ∷ xs) (suc zero) = x
 nth d (x ∷ xs) (suc (suc n)) = nth d xs (suc n)
-
-abbrev pub record_of : ℕ → RecordFault
-record_of = nth records.Short (records.Short ∷ records.Version ∷ records.Status ∷ records.Length ∷ records.Trailing ∷ records.OutOfMemory ∷ [])
-
-pub record_back : (e : RecordFault) → record_of (record_number e) ≡ e
-record_back records.Short = refl
-record_back records.Version = refl
-record_back records.Status = refl
-record_back records.Length = refl
-record_back records.Trailing = refl
-record_back records.OutOfMemory = refl
 
 pub record_exact : IsExact ghosts.cmp
 record_exact records.Short records.Short e = refl

@@ -177,14 +177,6 @@ pub text_found : (at : ℕ) (bytes : List ℕ) (r : Record) (text rest : List �
 unfolding found_at
 text_found at bytes r text rest q e = rw q e
 
-pub found_is : (at : ℕ) (bytes text rest : List ℕ) (p : Parts) → bytes_at (drop at bytes) ≡ Ok (text, rest) → parts_at text ≡ Ok p → found_at at bytes ≡ whole_from p
-unfolding found_at
-found_is at bytes text rest p read parts = rw (read, whole_parts text, parts) refl
-
-pub found_fails : (at : ℕ) (bytes text rest : List ℕ) (e : BatchFault) → bytes_at (drop at bytes) ≡ Ok (text, rest) → Fails e (parts_at text) → Fails e (found_at at bytes)
-unfolding found_at
-found_fails at bytes text rest e read h = fails_through e (parts_at text) (found_at at bytes) (λ f q. rw (read, whole_parts text, q) refl) h
-
 pub text_stands : (at : ℕ) (bytes : List ℕ) (r : Record) (e : BatchFault) → found_at at bytes ≡ Ok r → IsReal e → Fails e (bytes_at (drop at bytes)) → ⊥
 unfolding found_at
 text_stands at bytes r e h real fails =

@@ -1,5 +1,5 @@
 -- What is kept of partitions that are held in memory, one after the other; and the verdict that is judged of all of it.
-use Rattle.std.proofs.Common.{◌≡◌, ℕ, zero, suc, ◌+◌, ◌<◌, List, [], ◌∷◌, ◌++◌, length, take, get_or, Option, refl, sym, ap, subst, ◌∙◌, arith}
+use Rattle.std.proofs.Common.{◌≡◌, ℕ, zero, suc, ◌+◌, ◌<◌, List, [], ◌∷◌, ◌++◌, length, take, get_or, Option, sym, ap, subst, ◌∙◌, arith}
 use Rattle.std.specs.List.{AllByRecursion}
 use Rattle.std.proofs.Math.Seq.{take-suc}
 use Rattle.std.proofs.lemmas.List.{map-append}
@@ -52,9 +52,6 @@ module _ (apps : List App) where
             ∙ (ap (λ (l : PartLog). wanted_logs apps h.whole ++ l ∷ []) same ∙ sym (map-append (kept_log apps) h.whole (one.log ∷ [])));
         faults = faults_push ps faults p t.fault h.faults one.least;
       }
-
-  pub kept_none : AreKeptOf apps [] [] []
-  kept_none = record { whole = []; of = tt; parts = refl; faults = tt }
 
   pub kept_next : (ps : List Partition) (i : ℕ) (parts : List PartLog) (faults : List (Option PartitionFault)) (p : Partition) (t : Told) (w : Wanted) → i < length ps → p ≡ get_or ps i p
       → AreKeptOf apps (take i ps) parts faults → w ≡ wanted_of apps p.end.topic → IsTold w p.end p.segments t → AreKeptOf apps (take (i + 1) ps) (parts ++ t.part ∷ []) (faults ++ t.fault ∷ [])

@@ -35,9 +35,6 @@ itself a f s = record { fault = f; stands = s; upto = upto_itself fault_total f 
 pub when_has : (b : Bool) (f g : OutputFault) → Has (when b f) g → (b ≡ true) × (f ≡ g)
 when_has b f g h = let r = if_has b (f ∷ []) g h in (r.0, only f g r.1)
 
-names_of : (a : Application) (c d : PlacedClaim) → Has a.claims d → d.source ≡ c.source → Names a c.source d
-names_of a c d h e = record { has = h; source = e }
-
 -- the least claim of a claim's source
 module _ (a : Application) where
   pub least_beside : (c : PlacedClaim) → Has a.claims c → (t : PlacedClaim) × IsLeastClaim a c.source t

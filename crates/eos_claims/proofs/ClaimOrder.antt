@@ -116,10 +116,6 @@ fault_upto f g s h = ap is_gt (then_equal (place_cmp f.source g.source) _ (place
 
 -- ---- tests
 
-pub b_or : (b : Bool) → (b ≡ true) ⊎ (b ≡ false)
-b_or true = inl refl
-b_or false = inr refl
-
 pub same_place_true : (i j : Place) → is_eq (place_cmp i j) ≡ true → i ≡ j
 same_place_true i j e = place_exact i j (is_tied (place_cmp i j) e)
 

@@ -61,14 +61,6 @@ writer_decided (Some a) (Some b) = from_both (λ (h : (a.0 ≡ b.0) × (a.1 ≡ 
     parts : (a b : Writer) → Some a ≡ Some b → (a.0 ≡ b.0) × (a.1 ≡ b.1)
     parts a b e = let q : a ≡ b = cc in (ap (λ w. w.0) q, ap (λ w. w.1) q)
 
-below_decided : (a : Application) (i : Place) → Decided (IsBelow a i)
-below_decided a i = from_both (λ (h : Has a.inputs i × (pos i.offset <ℤ committed_offset a.commits i.partition)). record { input = h.0; below = h.1 })
-    (λ (h : IsBelow a i). (h.input, h.below))
-    (both (has_decided place_decided a.inputs i) (less_decided (pos i.offset) (committed_offset a.commits i.partition)))
-  where
-    less_decided : (x y : ℤ) → Decided (x <ℤ y)
-    less_decided x y = elim (int_less_or x y) [ inl l ↦ inl l | inr g ↦ inr (λ l. absurd (omega (arith, ints))) ]
-
 -- a commit of this writer past the input
 record Passes (c : PlacedClaim) (w : Writer) (m : Commit) : Type 0 where
   same : m.writer ≡ Some w

@@ -1,11 +1,11 @@
 -- All logs, one after the other.
-use Rattle.std.proofs.Common.{◌≡◌, ◌++◌, ◌∷◌, [], ℕ, ◌+◌, ◌-◌, ◌<◌, ◌≤◌, List, Result, Ok, Err, inl, inr, ◌∙◌, sym, ap, subst, arith, refl}
+use Rattle.std.proofs.Common.{◌≡◌, [], ℕ, ◌+◌, ◌-◌, ◌<◌, ◌≤◌, List, Result, Ok, Err, inl, inr, ◌∙◌, sym, ap, subst, arith, refl}
 use Rattle.std.specs.List.{flat_map, range_with_len}
 use Rattle.std.proofs.lemmas.Bool.{cases_lt}
 use Rattle.eos_base.specs.Fallible.{◌>>=◌}
 use Rattle.eos_evidence.specs.declared.segment.Segment.{Segment}
 use Rattle.eos_evidence.specs.declared.fault.AddFault.{AddFault}
-use Rattle.eos_evidence.specs.Evidence.{EvidenceParts, added}
+use Rattle.eos_evidence.specs.Evidence.{EvidenceParts}
 use Rattle.eos_machine.specs.declared.config.Config.{Config}
 use Rattle.eos_machine.specs.declared.item.Item.{Item}
 use Rattle.eos_machine.specs.LogIndexes.{log_count}
@@ -28,7 +28,7 @@ use Rattle.eos_log_writer.specs.declared.segments.LogFault.{LogFault}
 use Rattle.eos_log_writer.specs.declared.segments.LogFault.TheVariants as faults
 use Rattle.eos_machine.specs.Evidences.{parts_of}
 use Rattle.eos_machine.specs.steps.Writable.{IsWritable}
-use Rattle.eos_machine.proofs.AllAdded.{IsAdded, adding_both, segments_added}
+use Rattle.eos_machine.proofs.AllAdded.{adding_both, segments_added}
 
 -- what is left to add of the segments of all logs
 log_added : (f : ℕ → List Segment) (e g : EvidenceParts) (all : Result EvidenceParts AddFault) (i n : ℕ) → i < n → all ≡ adding e (flat_map f (range_with_len i (n - i))) → adding e (f i) ≡ Ok g

@@ -60,10 +60,6 @@ still_open (Some l) k h = absurd cc
 ended_more : (n : ℕ) (log : List Item) (x : Item) (xs : List Item) → AreEnded n log xs → AreEnded n log (x ∷ xs)
 ended_more n log x xs h a l o = h a l (still_open (kind_in a x) (first_kind a xs) o)
 
-not_committed : (k : Option Kind) → is_open k ≡ true → is_committed k ≡ false
-not_committed None h = refl
-not_committed (Some l) h = absurd cc
-
 same_open : (b : Bool) (k : Option Kind) (t : Bool) → is_open k ≡ false → (if b && is_open k then true else t) ≡ t
 same_open b k t h = rw h (at b)
   where

@@ -8,12 +8,12 @@ use Rattle.std.specs.Cmp.Lexicographic.{slice_cmp}
 use Rattle.std.specs.declared.cmp.Ordering.{Ordering}
 use Rattle.std.specs.declared.cmp.Ordering.TheVariants.{Less, Equal, Greater}
 use Rattle.std.proofs.lemmas.Cmp.{nat_list_cmp_total, alike_right}
-use Rattle.std.proofs.lemmas.List.{get_or-drop, drop_more}
+use Rattle.std.proofs.lemmas.List.{get_or-drop}
 use Rattle.std.proofs.lemmas.List.MinMax.{ranks_by}
 use Rattle.std.proofs.lemmas.List.Sorted.{sorted_far}
 use Rattle.eos_commits.specs.declared.table.Entry.{Entry}
 use Rattle.eos_commits.specs.Commits.{Group, Topic, is_same}
-use Rattle.eos_commits.specs.Tables.{pick, pick_of_topics, picked}
+use Rattle.eos_commits.specs.Tables.{pick, picked}
 use Rattle.eos_commits.specs.steps.Entries.{plain_entry, by_group, is_under}
 use Rattle.eos_commits.proofs.EntryLists.{same_is}
 
@@ -88,9 +88,6 @@ module _ (es : List Entry) (up : IsSorted by_group es) (g : Group) where
 
 -- ---- picking
 
-pub pick_yes : (g : Group) (s : List Topic) (e : Entry) → is_under g e ≡ true → pick g s (plain_entry e) ≡ pick_of_topics s (plain_entry e)
-pick_yes g s e t = rw t refl
-
 pub pick_no : (g : Group) (s : List Topic) (e : Entry) → is_under g e ≡ false → pick g s (plain_entry e) ≡ []
 pick_no g s e t = rw t refl
 
@@ -106,12 +103,6 @@ front_not_picked g s [] (suc n) below fits = refl
 front_not_picked g s (e ∷ es) (suc n) below fits =
     front_not_picked g s es n (λ k d lt. below (suc k) d (omega (arith, lt))) (omega (arith, fits))
     ∙ sym (ap (λ xs. xs ++ picked g s (map plain_entry es)) (pick_no g s e (less_other e.group.now g (below zero e (omega arith)))))
-
-pub picked_more : (g : Group) (s : List Topic) (es : List Entry) (i : ℕ) (d : Entry) → i < length es → is_under g (slice_index_or es i d) ≡ true
-    → picked g s (map plain_entry (drop i es)) ≡ pick_of_topics s (plain_entry (slice_index_or es i d)) ++ picked g s (map plain_entry (drop (i + 1) es))
-picked_more g s es i d lt t =
-    ap (λ xs. picked g s (map plain_entry xs)) (drop_more es i d lt)
-    ∙ ap (λ xs. xs ++ picked g s (map plain_entry (drop (i + 1) es))) (pick_yes g s (slice_index_or es i d) t)
 
 pub rest_not_picked : (g : Group) (s : List Topic) (es : List Entry) (i : ℕ) → IsSorted by_group es
     → ((k : ℕ) (d : Entry) → i ≤ k → k < length es → is_less (slice_index_or es k d).group.now g ≡ false)

@@ -14,7 +14,7 @@ use Rattle.eos_commits.specs.declared.shown.Role.{Role}
 use Rattle.eos_commits.specs.Visible.{is_visible}
 use Rattle.eos_commits.specs.Faults.{visible_cmp, Stands, AreInOrder}
 use Rattle.eos_commits.specs.steps.Roles.{Source, sources_of, RoleSets}
-use Rattle.eos_commits.specs.steps.Gathered.{Gathered, empty, visible_at, take_visible, take_item, role_in, take_part, gathered, IsFront, Lists, Takes}
+use Rattle.eos_commits.specs.steps.Gathered.{Gathered, empty, visible_at, take_visible, take_item, role_in, take_part, gathered, Lists, Takes}
 use Rattle.eos_commits.proofs.VisibleOrder.{visible_total}
 use Rattle.eos_commits.proofs.SpotsListed.{law as all_listed}
 
@@ -83,14 +83,6 @@ module _ (r : RoleSets) (found before : Gathered) (ps : List PartLog) (i : ℕ) 
   ]
 
 -- ---- the first of what is gathered
-
-pub first_is : (only_first : Bool) (found all : List VisibleFault) → Lists only_first found all → slice_get found 0 ≡ slice_get all 0
-first_is only_first found all (inl e) = ap (λ (l : List VisibleFault). slice_get l 0) e
-first_is only_first found all (inr f) = go found f.1
-  where
-    go : (front : List VisibleFault) → IsFront front all → slice_get front 0 ≡ slice_get all 0
-    go [] f = absurd (f.some refl)
-    go (x ∷ xs) f = ap (λ (l : List VisibleFault). slice_get l 0) f.joined
 
 pub all_of : (found all : List VisibleFault) → Lists false found all → found ≡ all
 all_of found all (inl e) = e

@@ -108,9 +108,6 @@ made_to old new path e set = (
 pub none_made : (old new : List Change) (path : List ℕ) → new ≡ old → AreMadeTo (held_in old) path (held_in new)
 none_made old new path e = record { fronts = λ q f. inl (unchanged old new e q); known = known_both old new; others = λ q n. unchanged old new e q }
 
-pub folder_there : (old : List Change) (path : List ℕ) → standing_in old path ≡ Folder → AreMade (held_in old) path (held_in old)
-folder_there old path e = (is_folder old path e, none_made old old path refl)
-
 pub removed_is : (old new : List Change) (path : List ℕ) → IsSet old path Nothing new → IsRemoved (held_in old) path (held_in new)
 removed_is old new path set = record {
   at = free new path (ap is_there set.at);

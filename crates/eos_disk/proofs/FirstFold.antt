@@ -1,11 +1,10 @@
 -- The first fold of the files of a partition.
-use Rattle.std.proofs.Common.{◌≡◌, ◌<◌, ◌+◌, ℕ, List, [], ◌∷◌, ◌++◌, length, take, drop, slice_index_or, inr, refl, sym, ap, ◌∙◌, subst}
+use Rattle.std.proofs.Common.{◌≡◌, ◌<◌, ◌+◌, ℕ, List, [], ◌∷◌, ◌++◌, length, take, drop, slice_index_or, inr, sym, ap, ◌∙◌, subst}
 use Rattle.std.proofs.lemmas.List.{take_more, drop_more, take-append-drop}
 use Rattle.std.specs.List.{AllByRecursion}
 use Rattle.eos_disk.specs.Entries.{Entry}
 use Rattle.eos_disk.specs.declared.folder.FolderFault.{FolderFault}
 use Rattle.eos_disk.specs.declared.names.FileName.{FileName}
-use Rattle.eos_disk.specs.declared.names.Form.{Form}
 use Rattle.eos_disk.specs.declared.names.Form.TheVariants.{Log, Fold}
 use Rattle.eos_disk.specs.Paths.{file_path}
 use Rattle.eos_disk.specs.Refusals.{RefusesFold}

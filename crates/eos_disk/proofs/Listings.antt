@@ -1,18 +1,11 @@
 -- What the listing of a partition's folder found.
 use Rattle.std.proofs.Common.{◌≡◌, ℕ, List, [], IsPermutation, IsSorted, refl, sym, subst, arith}
 use Rattle.std.proofs.lemmas.List.Sorted.{IsPermutation-refl}
-use Rattle.eos_disk.specs.Entries.{Entry, Unknown, Absent, File, Folder, HasNames, MayBeAbsent, MayLackFile}
+use Rattle.eos_disk.specs.Entries.{Entry, Unknown, Absent, File, Folder, HasNames, MayBeAbsent}
 use Rattle.eos_evidence.specs.declared.ends.End.{End}
 use Rattle.eos_disk.specs.declared.names.FileName.{FileName}
 use Rattle.eos_disk.specs.Paths.{path_of_end}
 use Rattle.eos_disk.specs.Shapes.{HasListing, by_base, files_said, AreByBase, IsFound}
-
--- where nothing stands no file does
-pub absent_lacks : (e : Entry) → MayBeAbsent e → MayLackFile e
-absent_lacks Unknown m = tt
-absent_lacks Absent m = tt
-absent_lacks (File bytes) m = absurd m
-absent_lacks (Folder names) m = absurd m
 
 none_listed : (e : Entry) → MayBeAbsent e → HasListing e []
 none_listed Unknown m = tt

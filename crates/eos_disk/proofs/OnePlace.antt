@@ -97,9 +97,6 @@ gone old new by removed = (only_removed old new by removed, inr removed.at)
 pub stays : (old new : List ℕ → Entry) (by : List ℕ) → SameAll old new → IsTakenBy old by new
 stays old new by s = (only_same old new by s, inl (s by))
 
-pub kept_all : (old : List ℕ → Entry) (by : List ℕ) → IsTakenBy old by old
-kept_all old by = stays old old by (λ q. refl)
-
 -- what stands there after all was written, and what was taken back
 after_taken : (old b new : Entry) (bytes : List ℕ) → HasBytes b bytes → (bare new ≡ bare b) ⊎ MayBeAbsent new → IsSameOrFront old bytes new
 after_taken old b new bytes h (inl s) = inr (inr (bytes, [], sym (append-nil bytes), bytes_same new b bytes s h))

@@ -9,7 +9,7 @@ use Rattle.std.proofs.lemmas.Slice.Eq.{bytes_eq-Decides}
 use Rattle.std.specs.Cmp.Lexicographic.{slice_cmp}
 use Rattle.std.specs.List.{AllByRecursion}
 use Rattle.std.specs.List.Sorted.{IsStrictlySortedBy}
-use Rattle.std.specs.Ordering.{nat_cmp, int_cmp, is_eq, match_ordering, ordering_reverse, ordering_then}
+use Rattle.std.specs.Ordering.{nat_cmp, int_cmp, is_eq, match_ordering, ordering_then}
 use Rattle.std.specs.declared.cmp.Ordering.{Ordering}
 use Rattle.std.specs.declared.cmp.Ordering.TheVariants.{Less, Equal, Greater}
 use Rattle.std.specs.BTreeMap.{insert_entry}
@@ -27,9 +27,6 @@ use Rattle.eos_evidence.proofs.EndsInOrder.{end_total}
 
 abbrev pub AllBelow : End → List End → Type 0
 AllBelow e = AllByRecursion (λ x. end_cmp x e ≡ Less)
-
-greater : (x e : End) → end_cmp x e ≡ Less → end_cmp e x ≡ Greater
-greater x e less = end_total.antisymm e x ∙ ap ordering_reverse less
 
 -- ---- the members with one more
 

@@ -40,12 +40,6 @@ names_step names others i name among later lt is among_is later_is =
     ∙ ap (λ b. not b && are_unequal (drop (i + 1) names ++ others))
     (list_any-append (bytes_eq name) (drop (i + 1) names) others ∙ (λ j. (sym (among_is ∙ ap (is_among name) (after_is names i)) j) || (sym later_is j)))
 
-pub outputs_step : (apps : List App) (i : ℕ) (d : App) (new : Bool) → i < length apps
-    → (new && are_unequal (outputs_of (after apps i))) ≡ are_unequal ((get_or apps i d).outputs ++ outputs_of (after apps i)) → are_unequal (outputs_of (drop i apps)) ≡ (new && are_unequal (outputs_of (drop (i + 1) apps)))
-outputs_step apps i d new lt says =
-    ap (λ l. are_unequal (outputs_of l)) (next apps i d lt) ∙ ap (λ l. are_unequal ((get_or apps i d).outputs ++ outputs_of l)) (sym (after_is apps i)) ∙ sym says
-    ∙ ap (λ l. new && are_unequal (outputs_of l)) (after_is apps i)
-
 pub first_holds : (a b : Bool) → a ≡ true → (a || b) ≡ true
 first_holds a b h = ap (λ x. x || b) h
 

@@ -59,22 +59,6 @@ pub firsts_rise : (firsts : List ℕ) (ps : List Partition) → AreFirsts firsts
 firsts_rise firsts ps are = IsNonDecreasingBy-from_default (λ n. n) firsts 0 (λ j k le lt.
     omega (arith, are.each j (omega (arith, le, lt, are.as_many)), are.each k (omega (arith, lt, are.as_many)), first_rises ps j k le))
 
-no_segments : (ps : List Partition) (i : ℕ) → i < length (segments_of ps) → 0 < length ps
-no_segments [] i lt = absurd (omega (arith, lt))
-no_segments (p ∷ ps) i lt = omega arith
-
-pub some_firsts : (firsts : List ℕ) (ps : List Partition) (i : ℕ) → AreFirsts firsts ps → i < length (segments_of ps) → 0 < length firsts
-some_firsts firsts ps i are lt = omega (arith, are.as_many, no_segments ps i lt)
-
-pub from_first : (firsts : List ℕ) (ps : List Partition) (i : ℕ) → AreFirsts firsts ps → i < length (segments_of ps) → slice_index firsts 0 ≤ i
-from_first firsts ps i are lt =
-    let none : first_of ps 0 ≡ 0 = nothing ps in
-    omega (arith, are.each 0 (no_segments ps i lt), none)
-  where
-    nothing : (qs : List Partition) → first_of qs 0 ≡ 0
-    nothing [] = refl
-    nothing (q ∷ qs) = refl
-
 get_front : (xs ys : List Segment) (i : ℕ) → i < length xs → slice_get (xs ++ ys) i ≡ slice_get xs i
 get_front [] ys i lt = absurd (omega arith)
 get_front (x ∷ xs) ys zero lt = refl

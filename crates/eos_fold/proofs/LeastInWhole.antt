@@ -14,7 +14,6 @@ use Rattle.eos_batch.specs.declared.batch.Batch.{Batch}
 use Rattle.eos_batch.specs.declared.fault.BatchFault.{BatchFault}
 use Rattle.eos_evidence.specs.Topics.{is_internal}
 use Rattle.eos_touch.specs.declared.pair.PairFault.{PairFault}
-use Rattle.eos_touch.specs.declared.pair.PairFault.TheVariants.{FirstSequence, Sequence, ZombieEpoch, EpochWhileOpen, NoBump, MixedProducer, MarkerKind}
 use Rattle.eos_touch.specs.Pair as pair
 use Rattle.eos_fold.specs.declared.fault.Fault.{Fault}
 use Rattle.eos_fold.specs.Faults.{IsLeastOf}
@@ -63,15 +62,6 @@ up_to x y l = go (int_cmp x y) refl
 
 by_id : (f g : PartitionFault) → f.offset ≡ g.offset → number_of f.kind ≡ number_of g.kind → producer_of f.kind ≤ℤ producer_of g.kind → UpTo fault_cmp f g
 by_id f g e n l = then_equal (nat_cmp f.offset g.offset) (behind f g) (nat_cmp_is f.offset g.offset Equal e) (then_equal (nat_cmp (number_of f.kind) (number_of g.kind)) _ (nat_cmp_is (number_of f.kind) (number_of g.kind) Equal n) (up_to (producer_of f.kind) (producer_of g.kind) l))
-
-low : (k : PairFault) → pair.number_of k < 10
-low FirstSequence = omega arith
-low Sequence = omega arith
-low ZombieEpoch = omega arith
-low EpochWhileOpen = omega arith
-low NoBump = omega arith
-low MixedProducer = omega arith
-low MarkerKind = omega arith
 
 module _ (topic : List ℕ) (number end : ℤ) (bs : List Batch) (stop : Stop) (steady : IsSteady 0 bs) where
   abbrev checked : Bool

@@ -7,7 +7,7 @@ use Rattle.std.proofs.lemmas.List.Elements.{All-from_recursion}
 use Rattle.eos_touch.specs.Pair.{is_open}
 use Rattle.std.proofs.lemmas.List.{append-nil}
 use Rattle.eos_fold.specs.declared.entry.Ending.{Ending}
-use Rattle.eos_fold.specs.Summaries.{BatchSummary, IsSummary, SameEnds}
+use Rattle.eos_fold.specs.Summaries.{SameEnds}
 use Rattle.std.proofs.lemmas.Int.{ints}
 use Rattle.std.specs.Ordering.{int_eq, int_cmp}
 use Rattle.std.specs.BTreeMap.{get}
@@ -181,14 +181,6 @@ alone_taking by t is p e ready places fits number = record {
 
 pub takes_same : (s : Bool) (xs : List Batch) (t u : Table) (is : List DataBatch) (f : Option Fault) → ((id : ℤ) → SameEnds (ends_at t id) (ends_at u id)) → TakesFrom s xs t is f → TakesFrom s xs u is f
 takes_same s xs t u is f same w = record { ends = λ id. same_ends_of id xs (ends_at t id) (ends_at u id) (same id) (w.ends id); items = w.items; fault = w.fault }
-
-pub nothing_known : (r : BatchSummary) → r.batches ≡ [] → ((id : ℤ) → ends_at r.producers id ≡ ends_in None) → r.fault ≡ None → IsSummary [] r
-nothing_known r items blank fault = record {
-  items = items;
-  ends = λ id. record { first = ap (λ (e : Ends). e.first) (blank id); last = ap (λ (e : Ends). e.last) (blank id); marker = ap (λ (e : Ends). e.marker) (blank id) };
-  places = λ id. ap (λ (e : Ends). e.waiting.list) (blank id) ∙ ap (waiting_in id) (sym items);
-  fault = subst (λ (f : Option Fault). IsLeastOf (IsSettled r.sequenced []) f) (sym fault) (λ o id k x. x);
-}
 
 -- a fact of a key, at an equal one
 pub are_of_key : (h : Batch) (k p : ℤ) (t : Touch) (e : Ends) → k ≡ p → AreEndsOf (offset_of h) (is_data h) k t e → AreEndsOf (offset_of h) (is_data h) p t e

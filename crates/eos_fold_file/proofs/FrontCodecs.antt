@@ -1,5 +1,5 @@
 -- What stands before the batches in a fold file is read exactly as it is written.
-use Rattle.std.proofs.Common.{◌≡◌, ℕ, zero, suc, ◌-◌, ◌+◌, ℤ, pos, negsuc, List, ◌++◌, Ok, refl, ap, ◌∙◌, subst, append_assoc, arith, FitsSigned}
+use Rattle.std.proofs.Common.{◌≡◌, ℕ, zero, suc, ℤ, pos, negsuc, List, ◌++◌, Ok, refl, ap, ◌∙◌, subst, append_assoc, arith, FitsSigned}
 use Rattle.std.specs.Prelude.{⊤, nat_eq}
 use Rattle.std.specs.Cmp.Lexicographic.{pointwise, bytes_decides}
 use Rattle.std.specs.Ordering.{int_eq}

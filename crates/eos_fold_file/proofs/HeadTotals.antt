@@ -11,14 +11,6 @@ use Rattle.eos_fold_file.specs.steps.Counts.{IsCountedHeads, AreCounted}
 
 -- ---- one after the other
 
-pub none_counted : (begin : ℕ) (c : Counted) → begin < 2 ^ 64 → c.next ≡ begin → c.records ≡ 0 → c.size ≡ 0 → IsCountedHeads begin [] c
-none_counted begin c lt next records size = record {
-  next = omega (arith, lt, next);
-  below = omega (arith, records);
-  counted = λ le. records;
-  size = omega (arith, size);
-}
-
 pub counted_more : (begin : ℕ) (heads : List FoldHead) (h : FoldHead) (c d : Counted) → d.next ≡ min (c.next + h.count) (2 ^ 64 - 1) → d.records ≡ min (c.records + data_records h) (2 ^ 64 - 1)
     → d.size ≡ min (c.size + h.size) (2 ^ 64 - 1) → IsCountedHeads begin heads c → IsCountedHeads begin (heads ++ h ∷ []) d
 counted_more begin heads h c d next records size is =

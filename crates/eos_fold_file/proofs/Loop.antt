@@ -71,9 +71,6 @@ pub five_pieces : (before a b c d e out1 out2 out3 out4 out5 : List ℕ) → out
     → out5 ≡ before ++ (a ++ (b ++ (c ++ (d ++ e))))
 five_pieces before a b c d e out1 out2 out3 out4 out5 e1 e2 e3 e4 e5 = rw (e5, e4, e3, e2, e1) (simp append_assoc)
 
-pub four_pieces : (before a b c d out1 out2 out3 out4 : List ℕ) → out1 ≡ before ++ a → out2 ≡ out1 ++ b → out3 ≡ out2 ++ c → out4 ≡ out3 ++ d → out4 ≡ before ++ (a ++ (b ++ (c ++ d)))
-four_pieces before a b c d out1 out2 out3 out4 e1 e2 e3 e4 = rw (e4, e3, e2, e1) (simp append_assoc)
-
 -- what holds of each item before i, and of that at i, holds of each before i + 1
 pub each_more : {X : Type 0} (P : X → Type 0) (xs : List X) (i : ℕ) (e : X) → i < length xs
     → ((k : ℕ) (d : X) → k < i → P (get_or xs k d)) → P (get_or xs i e) → (k : ℕ) (d : X) → k < i + 1 → P (get_or xs k d)

@@ -31,9 +31,9 @@ use Rattle.eos_history_lines.specs.declared.line.Row.{Row}
 use Rattle.eos_history_lines.specs.declared.line.Row.TheVariants as rows
 use Rattle.eos_history_lines.specs.Fits.{FitsClaim, FitsEvent, FitsNote, FitsDeed, FitsRow}
 use Rattle.eos_history_lines.specs.Words.{event_word, note_word}
-use Rattle.eos_manifest.specs.Objects.{count, integer, text_value}
+use Rattle.eos_manifest.specs.Objects.{count, text_value}
 use Rattle.eos_history_lines.specs.Lines.{named_if, switch_names, switches_value, with_sizes, with_asked, head_value, with_claim, claim_value, claimed, offset_or_null, count_or_null, with_group, with_arguments, with_event, with_value, with_reply, with_subject, with_note, with_deed, line_value, with_tail, tail_value, row_value}
-use Rattle.eos_history_lines.specs.steps.Reading.{as_small, claim_in, claim_or_none, offset_or_none, partition_or_none, event_called, group_from, event_in, reply_in, reply_from, is_text, is_named, switches_in, head_in, note_called, deed_from, deed_of, deed_in, line_in, tail_in, row_from, row_in}
+use Rattle.eos_history_lines.specs.steps.Reading.{as_small, claim_in, claim_or_none, offset_or_none, partition_or_none, event_called, group_from, event_in, reply_in, reply_from, is_text, is_named, switches_in, head_in, note_called, deed_from, deed_of, deed_in, line_in, row_from, row_in}
 
 -- ---- looking up what was put
 
@@ -346,10 +346,6 @@ switches_back s = λ i. record {
 pub head_back : (h : Head) → head_in (head_value h) ≡ Some h
 unfolding head_value with_asked with_sizes switches_value
 head_back h = ap (λ (s : Switches). Some (record { config = h.config; switches = s; seed = h.seed; words = h.words })) (switches_back h.switches)
-
-tail_back : (t : Tail) → tail_in (tail_value t) ≡ Some t
-unfolding tail_value with_tail
-tail_back t = refl
 
 -- a name that stands in no deed
 record NoDeed (q : List ℕ) : Type 0 where

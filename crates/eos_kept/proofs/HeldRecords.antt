@@ -16,7 +16,7 @@ use Rattle.eos_fold.proofs.RisingItems.{items_rise}
 use Rattle.eos_kept.specs.Runs.{heads_of}
 use Rattle.eos_kept.specs.declared.front.Front.{Front}
 use Rattle.eos_kept.specs.declared.sizes.Sizes.{Sizes}
-use Rattle.eos_kept.specs.Kept.{KeptView, KeepsFront}
+use Rattle.eos_kept.specs.Kept.{KeptView}
 use Rattle.eos_kept.specs.Passing.{data_count, HoldsEach}
 use Rattle.eos_claims.specs.Headers.{claim_of}
 use Rattle.eos_reading.specs.declared.wanted.Wanted.TheVariants as wants
@@ -102,9 +102,6 @@ module _ (f : Front) (rs : List Record) (h : HoldsEach f rs) (heads : List DataH
       omega (arith, same, length-map (items_under heads 0 rs) offset_in, length-map (map (wanted_item wants.Presence) (items_of ds)) offset_in, length-map (items_of ds) (wanted_item wants.Presence), items_length ds, count, each)
 
 -- ---- which fronts hold one for each
-
-pub held_none : {K : Type 0} (f : Front) (ks : List K) → KeepsFront [] f → ks ≡ [] → HoldsEach f ks
-held_none f ks keeps none = record { batches = []; along = record { keeps = keeps; continuous = tt }; each = ap length none }
 
 pub each_map : {K : Type 0} (g : K → Record) (front : Option Front) (ks : List K) (rs : List Record) → rs ≡ map g ks → AreEach front ks → AreEach front rs
 each_map g None ks rs e h = e ∙ ap (map g) h

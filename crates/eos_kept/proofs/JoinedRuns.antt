@@ -10,7 +10,7 @@ use Rattle.eos_fold.specs.Heads.{DataHead}
 use Rattle.eos_fold.specs.declared.ends.Ends.{Ends}
 use Rattle.eos_fold.specs.declared.fault.Fault.{Fault}
 use Rattle.eos_fold.specs.Settling.{data_in, data_after, waiting_in}
-use Rattle.eos_fold.specs.Tables.{Table, ends_in, ends_at}
+use Rattle.eos_fold.specs.Tables.{Table, ends_at}
 use Rattle.eos_fold.specs.Taken.{IsReadyFor}
 use Rattle.eos_fold.specs.Faults.{IsSettled, IsLeastOf}
 use Rattle.eos_fold.specs.Earlier.{earlier}
@@ -19,7 +19,6 @@ use Rattle.eos_fold.specs.steps.Joins.{rest_of, Starts, IsTaking}
 use Rattle.eos_fold.proofs.Waiting.{all_below}
 use Rattle.eos_fold.proofs.TakingOver.{all_ends, all_places, all_items, all_faults}
 use Rattle.eos_fold.proofs.JoinedSummaries.{same_summary, can_take, starts}
-use Rattle.eos_fold.proofs.OneBatch.{nothing_known}
 use Rattle.eos_kept.specs.declared.run.Run.{Run}
 use Rattle.eos_kept.specs.Runs.{heads_of, summary_with, IsRunOf, IsRun, SameRun}
 use Rattle.eos_kept.specs.steps.Taking.{CanTake, HaveIndexes, Begins, BeginsWith, HasTaken}
@@ -30,13 +29,6 @@ same_run xs s t e h = record {
   heads = e.heads ∙ h.heads;
   known = same_summary xs (summary_with (data_in xs) s) (summary_with (data_in xs) t) (record { sequenced = e.sequenced; items = refl; ends = e.ends; fault = e.fault }) h.known;
 }
-
-pub some_run : (s t : Run) → SameRun s t → IsRun s → IsRun t
-some_run s t e h = (h.0, same_run h.0 s t e h.1)
-
--- what stands at places of the heads
-pub have_places : (s : Run) (t : Table) (heads : List DataHead) → IsRun s → heads ≡ s.heads.list → ((id : ℤ) → SameEnds (ends_at s.producers id) (ends_at t id)) → HaveIndexes t heads
-have_places s t heads h e same = (data_in h.0, e ∙ h.1.heads, λ id. (same id).waiting ∙ h.1.known.places id)
 
 pub places_inside : (t : Table) (heads : List DataHead) (p : ℤ) → HaveIndexes t heads → All (λ n. n < length heads) (ends_at t p).waiting.list
 places_inside t heads p h =
@@ -97,7 +89,3 @@ begins_with xs s heads h e = record { ds = data_in xs; heads_are = e ∙ h.heads
 
 pub no_data : (b : Batch) → is_control b.attributes ≡ true → [] ≡ heads_of (data_in (b ∷ []))
 no_data b e = ap (λ (x : Bool). heads_of (cond (not x) (data_after b [] ∷ []) [] ++ [])) (sym e)
-
--- nothing is known of no batch
-pub nothing_run : (r : Run) → r.heads.list ≡ [] → ((id : ℤ) → ends_at r.producers id ≡ ends_in None) → r.fault ≡ None → IsRunOf [] r
-nothing_run r heads blank fault = record { heads = heads; known = nothing_known (summary_with [] r) refl blank fault }

@@ -20,7 +20,7 @@ use Rattle.eos_kept.specs.declared.kept_run.KeptRun.{KeptRun}
 use Rattle.eos_kept.specs.declared.kept_run.KeptRun.TheVariants.{Presence, Claims, Texts}
 use Rattle.eos_kept.specs.declared.part.Told.{Told}
 use Rattle.eos_kept.specs.Kept.{KeptView}
-use Rattle.eos_kept.specs.KeptRuns.{IsKeptRun, wanted_by, front_of, HasClaims, AreKeptRun, IsWantedBy, HaveClaims}
+use Rattle.eos_kept.specs.KeptRuns.{IsKeptRun, wanted_by, front_of, HasClaims, AreKeptRun}
 use Rattle.eos_kept.specs.Held.{Asking, IsHeld, AreHeld}
 use Rattle.eos_kept.specs.Parts.{IsTold}
 use Rattle.eos_kept.specs.steps.Made.{AreKept, IsMade}
@@ -65,14 +65,6 @@ checked_so topics s ss (Claims kept) k = k.front.sequenced
 checked_so topics s ss (Texts kept) k = k.front.sequenced
 
 -- ---- one segment more
-
-pub as_wanted : (a : Asking) (segments : List Segment) (run : Option KeptRun) → AreHeld a segments run → IsWantedBy a.wanted run
-as_wanted a segments None h = tt
-as_wanted a segments (Some run) h = h.asked.wanted
-
-pub have_claims : (a : Asking) (segments : List Segment) (run : Option KeptRun) → AreHeld a segments run → HaveClaims a.topics run
-have_claims a segments None h = tt
-have_claims a segments (Some run) h = h.asked.claims
 
 pub were_kept : (a : Asking) (segments : List Segment) (run : Option KeptRun) → AreHeld a segments run → AreKeptRun a.topics segments run
 were_kept a segments None h = h

@@ -1,5 +1,5 @@
 -- A partition, made of the front of its segments and of what is kept of its records.
-use Rattle.std.proofs.Common.{◌≡◌, ◌≢◌, ◌↔◌, ℕ, ℤ, List, [], ◌∷◌, map, not, Option, Some, None, refl, sym, ap, subst, ◌∙◌, arith}
+use Rattle.std.proofs.Common.{◌≡◌, ◌↔◌, ℕ, ℤ, List, [], ◌∷◌, map, not, Option, Some, None, refl, sym, ap, subst, ◌∙◌, arith}
 use Rattle.std.specs.Prelude.{All}
 use Rattle.eos_base.specs.Members.{Has}
 use Rattle.eos_batch.specs.declared.batch.Batch.{Batch}
@@ -20,22 +20,18 @@ use Rattle.eos_fold.specs.Faults.{IsLeastOf}
 use Rattle.eos_fold.specs.Settling.{data_in}
 use Rattle.eos_fold.specs.BatchesWhole.{StandsInWhole, IsLeastOpen}
 use Rattle.eos_fold.specs.declared.close.Close.{Close}
-use Rattle.eos_fold.specs.declared.stop.Stop.{Stop}
-use Rattle.eos_fold.specs.declared.stop.Stop.TheVariants.{AtEnd, Elsewhere}
-use Rattle.eos_fold.specs.Fronts.{IsFront}
 use Rattle.eos_fold.specs.Standing.{IsPartitionFault, AreOf}
 use Rattle.eos_fold.specs.Sums.{AreChecked}
 use Rattle.eos_fold.specs.Stops.{kind_at_stop}
 use Rattle.eos_fold.specs.Parts.{AreCloses}
 use Rattle.eos_fold.proofs.ClosesRead.{closes_read}
-use Rattle.eos_fold.proofs.JoinedFronts.{other_name}
 use Rattle.eos_fold.proofs.LeastInWhole.{touch_answer, kind_answer, none_answer}
 use Rattle.eos_fold.proofs.RisingItems.{items_rise}
 use Rattle.eos_fold.proofs.SteadyFronts.{IsSteady, front_steady}
 use Rattle.eos_kept.specs.Runs.{heads_of, IsRunOf}
 use Rattle.eos_kept.specs.declared.front.Front.{Front}
 use Rattle.eos_kept.specs.declared.sizes.Sizes.{Sizes}
-use Rattle.eos_kept.specs.Kept.{KeptView, KeepsFront, IsKept}
+use Rattle.eos_kept.specs.Kept.{KeptView, IsKept}
 use Rattle.eos_kept.specs.Sizes.{AreSized}
 use Rattle.eos_claims.specs.Headers.{claim_of}
 use Rattle.eos_reading.specs.declared.wanted.Wanted.{Wanted}
@@ -83,27 +79,6 @@ module _ (topic : List ℕ) (number end : ℤ) (segments : List Segment) (bs : L
   none_told left none least = none_answer topic number end bs f.stop f.run.sequenced steady checked f.next left (none bs h.keeps.run) (least bs h.keeps.run) next_is
 
 -- ---- the front of all segments
-
-pub whole_none : (w : Wanted) (segments : List Segment) (f : Front) (kept : Records) → f.begin ≡ 0 → f.stop ≡ AtEnd → KeepsFront [] f → f.epochs.items ≡ [] → AreRead w segments None kept → AreWhole w segments f kept
-whole_none w segments f kept begin stop keeps epochs r = record {
-  batches = [];
-  whole = record { begin = begin; front = subst (λ (ss : List Segment). IsFront 0 ss [] f.stop) (sym r.0) (refl, stop); keeps = keeps; epochs = epochs };
-  wanted = r.1;
-}
-
-pub whole_same : (w : Wanted) (segments : List Segment) (f : Front) (kept : Records) → f.begin ≡ 0 → AreRead w segments (Some f) kept → AreWhole w segments f kept
-whole_same w segments f kept begin r = record {
-  batches = r.0;
-  whole = record { begin = begin; front = subst (λ (n : ℕ). IsFront n segments r.0 f.stop) begin r.1.front; keeps = r.1.keeps; epochs = r.1.epochs };
-  wanted = r.2;
-}
-
-pub whole_other : (w : Wanted) (segments : List Segment) (f g : Front) (kept kept' : Records) → f.begin ≢ 0 → g.begin ≡ 0 → g.stop ≡ Elsewhere f.begin → KeepsFront [] g → g.epochs.items ≡ [] → records_in kept' ≡ [] → AreRead w segments (Some f) kept → AreWhole w segments g kept'
-whole_other w segments f g kept kept' ne begin stop keeps epochs none r = record {
-  batches = [];
-  whole = record { begin = begin; front = subst (λ (st : Stop). IsFront 0 segments [] st) (sym stop) (other_name 0 segments f.begin r.1.begins ne); keeps = keeps; epochs = epochs };
-  wanted = none;
-}
 
 pub checked_as : (topic : List ℕ) (number : ℤ) (segments : List Segment) (f : Front) → AreChecked segments f.run.sequenced → AreOf topic number segments → IsChecked topic f
 checked_as topic number [] f c of = absurd c

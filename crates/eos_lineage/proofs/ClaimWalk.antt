@@ -15,9 +15,6 @@ use Rattle.eos_claims.specs.Candidates.{Counted, counted, shown, shown_by, is_in
 use Rattle.eos_lineage.specs.declared.tables.Known.{Known}
 use Rattle.eos_lineage.specs.steps.Walks.{WalkView, HasWalked, is_below, KnowsPlace, AreTests, kept_of}
 
-pub walked_none : (a : Application) (w : WalkView) → HasWalked a w w []
-walked_none a w = record { best = refl; below = sym (append-nil w.below) }
-
 pub walked_then : (a : Application) (u v w : WalkView) (cs ds : List PlacedClaim) → HasWalked a u v cs → HasWalked a v w ds → HasWalked a u w (cs ++ ds)
 walked_then a u v w cs ds h k = record {
   best = k.best ∙ (ap (λ b. fold (lesser_of fault_cmp) b (flat_map (shown_by a) ds)) h.best

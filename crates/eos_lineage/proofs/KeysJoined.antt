@@ -5,7 +5,7 @@ use Rattle.std.specs.List.{flat_map, filter, list_any}
 use Rattle.std.proofs.lemmas.Grind.{flat_map-append}
 use Rattle.std.proofs.lemmas.List.Elements.{filter-append}
 use Rattle.std.proofs.Math.Seq.{take-add, get_or-append_seam}
-use Rattle.std.proofs.lemmas.List.{append-nil, append_assoc, map-append, get_or_append_left, length-append}
+use Rattle.std.proofs.lemmas.List.{append_assoc, map-append, get_or_append_left, length-append}
 use Rattle.eos_base.specs.declared.partition_name.PartitionName.{PartitionName}
 use Rattle.eos_base.proofs.Membership.{append_cases, only}
 use Rattle.eos_claims.specs.Outputs.{PlacedClaim, Application}
@@ -19,9 +19,6 @@ use Rattle.eos_lineage.proofs.NamePlaces.{place_at}
 use Rattle.eos_commits.proofs.NameSearch.{get_has}
 
 -- ---- one after the other
-
-pub keyed_none : (a : Application) (ns : List PartitionName) (v : KeysView) → HasKeyed a ns v v []
-keyed_none a ns v = record { keys = sym (append-nil v.keys); outputs = omega arith; each = λ c h. absurd h }
 
 abbrev is_output : PlacedClaim → Bool
 is_output c = not (is_note c)
@@ -80,9 +77,6 @@ each_last a ns claims rs r h = subst (λ (x : Read). IfSome x (λ w. HasKeyed a 
 
 abbrev pub KeyedAll : List Read → Keys → Type 0
 KeyedAll rs w = (a : Application) (ns : List PartitionName) (claims : ℕ → List PlacedClaim) → EachKeyed a ns claims rs → HasKeyed a ns no_keys (plain_keys w) (in_turn claims (length rs))
-
-pub none_yet : (w : Keys) → plain_keys w ≡ no_keys → KeyedAll [] w
-none_yet w e = λ a ns claims each. subst (λ (v : KeysView). HasKeyed a ns no_keys v []) (sym e) (keyed_none a ns no_keys)
 
 pub one_more : (rs : List Read) (v w next : Keys) → KeyedAll rs v → plain_keys w ≡ joined_keys (plain_keys v) (plain_keys next) → KeyedAll (rs ++ Some next ∷ []) w
 one_more rs v w next all e = λ a ns claims each.

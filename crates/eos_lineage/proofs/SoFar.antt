@@ -1,8 +1,7 @@
 -- A walk over the items of a log, one after the other.
-use Rattle.std.proofs.Common.{◌≡◌, ℕ, suc, ◌+◌, List, [], ◌∷◌, ◌++◌, length, drop, Some, sym, subst, ap, ◌∙◌, arith}
+use Rattle.std.proofs.Common.{◌≡◌, ℕ, suc, ◌+◌, List, [], ◌∷◌, ◌++◌, drop, Some, sym, ap, ◌∙◌, arith}
 use Rattle.std.specs.List.{flat_map, slice_get}
-use Rattle.std.proofs.Math.Seq.{drop-length}
-use Rattle.std.proofs.lemmas.List.{append-nil, append_assoc}
+use Rattle.std.proofs.lemmas.List.{append_assoc}
 use Rattle.std.proofs.lemmas.Grind.{flat_map-append}
 use Rattle.eos_fold.proofs.ListPlaces.{drop_get}
 
@@ -11,9 +10,6 @@ pub record SoFar {X Y : Type 0} (f : X → List Y) (P : List Y → Type 0) (left
   pub done : List Y
   pub parts : done ++ flat_map f left ≡ flat_map f all
   pub holds : P done
-
-pub at_first : {X Y : Type 0} (f : X → List Y) (P : List Y → Type 0) (left all : List X) → left ≡ all → P [] → SoFar f P left all
-at_first f P left all e p = record { done = []; parts = ap (flat_map f) e; holds = p }
 
 pub at_next : {X Y : Type 0} (f : X → List Y) (P Q : List Y → Type 0) (left rest all : List X) (x : X) → SoFar f P left all → left ≡ x ∷ rest
     → ((ys : List Y) → P ys → Q (ys ++ f x)) → SoFar f Q rest all
@@ -40,10 +36,3 @@ pub at_place : {X Y : Type 0} (f : X → List Y) (P Q : List Y → Type 0) (all 
 at_place f P Q all i x s e more =
     let z : suc i ≡ i + 1 = omega arith in
     at_next f P Q (drop i all) (drop (i + 1) all) all x s (drop_get all i x e ∙ ap (λ (k : ℕ). x ∷ drop k all) z) more
-
-pub at_last : {X Y : Type 0} (f : X → List Y) (P : List Y → Type 0) (left all : List X) → SoFar f P left all → left ≡ [] → P (flat_map f all)
-at_last {X} {Y} f P left all s e = subst P (sym (append-nil s.done) ∙ (ap (λ (zs : List X). s.done ++ flat_map f zs) (sym e) ∙ s.parts)) s.holds
-
--- when as many places are passed as there are
-pub at_end : {X Y : Type 0} (f : X → List Y) (P : List Y → Type 0) (all : List X) (i : ℕ) → SoFar f P (drop i all) all → i ≡ length all → P (flat_map f all)
-at_end f P all i s e = at_last f P (drop i all) all s (ap (λ (k : ℕ). drop k all) e ∙ drop-length all)

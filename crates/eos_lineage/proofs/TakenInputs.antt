@@ -1,12 +1,12 @@
 -- The walk over inputs below their committed offsets, and the keys of their claims.
-use Rattle.std.proofs.Common.{◌≡◌, ◌+◌, ◌*◌, ◌<◌, ◌≤◌, ℕ, ℤ, pos, zero, suc, List, [], ◌∷◌, ◌++◌, length, map, take, drop, get_or, Some, refl, sym, subst, ap, ◌∙◌, inl, inr, true, false, Bool, ◌&&◌, arith, if◌then◌else◌, cond}
+use Rattle.std.proofs.Common.{◌≡◌, ◌+◌, ◌<◌, ◌≤◌, ℕ, ℤ, pos, zero, suc, List, [], ◌∷◌, ◌++◌, length, map, take, drop, get_or, Some, refl, sym, subst, ap, ◌∙◌, inl, inr, true, false, Bool, ◌&&◌, arith, if◌then◌else◌, cond}
 use Rattle.std.specs.Prelude.{slice_get, slice_index_or, int_lt}
 use Rattle.std.specs.List.{flat_map, filter}
 use Rattle.std.proofs.lemmas.List.Elements.{filter-append}
 use Rattle.std.proofs.lemmas.List.{append_assoc, map-append, length-append}
 use Rattle.eos_base.specs.declared.partition_name.PartitionName.{PartitionName}
 use Rattle.eos_base.specs.Members.{Has}
-use Rattle.eos_base.proofs.Membership.{append_cases, only, flat_has, has_map, filter_has}
+use Rattle.eos_base.proofs.Membership.{append_cases, flat_has, has_map, filter_has}
 use Rattle.eos_fold.specs.declared.item.Item.{Item}
 use Rattle.eos_fold.specs.Parts.{part_name, PartLog}
 use Rattle.eos_claims.specs.declared.place.Place.{Place}
@@ -15,7 +15,7 @@ use Rattle.eos_claims.specs.Candidates.{is_committed}
 use Rattle.eos_commits.specs.Visible.{is_visible}
 use Rattle.eos_commits.specs.Applications.{Topic, is_part_of, place_in, inputs_below}
 use Rattle.eos_lineage.specs.declared.books.Books.{Books}
-use Rattle.eos_lineage.specs.steps.Keys.{LeftView, keys_for, spot, below_at, place_among, Told, AreBooks, HasTaken}
+use Rattle.eos_lineage.specs.steps.Keys.{LeftView, spot, below_at, place_among, Told, AreBooks, HasTaken}
 use Rattle.eos_lineage.specs.steps.Shares.{below_of, inputs_between}
 use Rattle.eos_lineage.specs.steps.Walks.{input_at, inputs_at}
 use Rattle.eos_lineage.proofs.NamePlaces.{place_at}
@@ -32,14 +32,6 @@ taken_then ns u v w is js h k = record {
       (h.told (map (spot ns) js ++ rest) (k.told rest t));
   count = let p = h.count in let q = k.count in omega (arith, p, q, length-append is js);
   offsets = λ i m. elim (append_cases is js i m) [ inl x ↦ h.offsets i x | inr y ↦ k.offsets i y ];
-}
-
-pub taken_one : (ns : List PartitionName) (u v : LeftView) (i : Place) (place n : ℕ) → place ≡ place_among ns i.partition → i.offset < 4294967296 → n < 1024
-    → u.keys ≡ keys_for (place * 4294967296 + i.offset) n ++ v.keys → v.inputs ≡ u.inputs + 1 → HasTaken ns u v (i ∷ [])
-taken_one ns u v i place n at small few keys count = record {
-  told = λ rest t. (n, few, v.keys, keys ∙ ap (λ p. keys_for (p * 4294967296 + i.offset) n ++ v.keys) at, t);
-  count = count;
-  offsets = λ j h. subst (λ (k : Place). k.offset < 4294967296) (only i j h) small;
 }
 
 -- ---- over the logs

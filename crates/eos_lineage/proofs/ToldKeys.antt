@@ -1,7 +1,6 @@
 -- Keys that are those of the inputs, one input after the other.
-use Rattle.std.proofs.Common.{◌≡◌, ◌<◌, ◌≤◌, ◌+◌, ◌-◌, ◌*◌, ◌/◌, ◌%◌, ℕ, zero, suc, List, [], ◌∷◌, ◌++◌, length, map, true, Option, Some, None, refl, sym, subst, ap, ◌∙◌, inl, inr, ◌⊎◌, arith}
-use Rattle.std.specs.Prelude.{IfSome, ◌==◌}
-use Rattle.std.proofs.lemmas.Bool.{eqb-true}
+use Rattle.std.proofs.Common.{◌≡◌, ◌<◌, ◌≤◌, ◌+◌, ◌-◌, ◌*◌, ◌/◌, ◌%◌, ℕ, zero, suc, List, [], ◌∷◌, ◌++◌, map, Option, Some, None, refl, sym, subst, ap, ◌∙◌, inl, inr, ◌⊎◌, arith}
+use Rattle.std.specs.Prelude.{IfSome}
 use Rattle.eos_base.specs.Members.{Has}
 use Rattle.eos_base.proofs.Membership.{append_cases, append_left, append_right, only, has_map}
 use Rattle.eos_lineage.specs.steps.Keys.{key_at, steps, keys_for, Told}
@@ -58,11 +57,6 @@ step_back before rest after last key count step lt is next all =
 -- the keys of the input with this spot
 abbrev pub OfInput : ℕ → List ℕ → List ℕ → Type 0
 OfInput s keys rest = (n : ℕ) × (n < 1024) × (keys ≡ keys_for s n ++ rest)
-
-pub with_note : (s first : ℕ) (keys rest : List ℕ) → first / 1024 / 1024 ≡ s → first / 1024 % 1024 ≡ 0 → first % 1024 ≡ 0 → keys ≡ first ∷ rest → OfInput s keys rest
-with_note s first keys rest spot output of is =
-    let e : first ≡ key_at s 0 0 = omega (arith, spot, output, of) in
-    (0, omega arith, is ∙ ap (λ k. k ∷ rest) e)
 
 pub with_outputs : (s first of : ℕ) (keys more rest : List ℕ) → first / 1024 / 1024 ≡ s → first / 1024 % 1024 ≡ 1 → first % 1024 ≡ of → 0 < of → keys ≡ first ∷ more
     → more ≡ steps (first + 1024) (of - 1) ++ rest → OfInput s keys rest
@@ -169,7 +163,3 @@ same_member f (z ∷ xs) apart x y (inr h) (inr k) e = same_member f xs apart.1 
 pub on_some : {A : Type 0} (o : Option A) (P Q : A → Type 0) → ((x : A) → P x → Q x) → IfSome o P → IfSome o Q
 on_some None P Q f p = tt
 on_some (Some x) P Q f p = f x p
-
-pub no_key : (ks : List ℕ) → (length ks == 0) ≡ true → ks ≡ []
-no_key [] e = refl
-no_key (k ∷ ks) e = let z = eqb-true (length (k ∷ ks)) 0 e in absurd (omega (arith, z))

@@ -1,9 +1,8 @@
 -- What is written of a cluster is refused for want of memory alone.
-use Rattle.std.proofs.Common.{◌≡◌, Bool, true, false, pos, ℕ, zero, suc, ◌+◌, ◌-◌, ◌*◌, ◌/◌, ◌^◌, ◌<◌, ◌≤◌, List, [], ◌++◌, Result, Ok, Err, inl, inr, refl, sym, ap, subst, ◌∙◌, arith, take, drop, length, map, pos}
+use Rattle.std.proofs.Common.{◌≡◌, Bool, true, false, pos, ℕ, zero, suc, ◌+◌, ◌-◌, ◌*◌, ◌/◌, ◌^◌, ◌<◌, ◌≤◌, List, [], ◌++◌, Result, Ok, Err, inl, inr, refl, sym, ap, subst, ◌∙◌, arith, take, drop, map, pos}
 use Rattle.std.specs.Prelude.{IsOk, nat_lt, if◌then◌else◌}
 use Rattle.std.specs.List.{All, range_with_len}
 use Rattle.std.proofs.Math.Nat.{div-add-mod, mul_comm, mul-le-mul_right}
-use Rattle.std.proofs.lemmas.List.{length-take, length-drop}
 use Rattle.std.proofs.lemmas.List.Elements.{All-take}
 use Rattle.std.specs.Int.{w64, cast_signed, cast_unsigned, to_be_bytes}
 use Rattle.std.proofs.lemmas.Int.{of_z-to_z, ints}
@@ -82,9 +81,6 @@ begins_inside c n i l h =
     next_times : (n r : ℕ) → suc n * r ≡ n * r + r
     next_times zero r = omega arith
     next_times (suc n) r = let e = next_times n r in omega (arith, e)
-
-pub part_inside : (r b : ℕ) (log : List Item) → b < length log → b + length (take r (drop b log)) ≤ length log
-part_inside r b log l = let t = length-take r (drop b log) in let d = length-drop b log in omega (arith, t, d, l)
 
 pub part_fits : (c : Config) (r b : ℕ) (log : List Item) → All (IsFit c) log → All (IsFit c) (take r (drop b log))
 part_fits c r b log h = All-take (IsFit c) r (drop b log) (all_drop (IsFit c) b log h)

@@ -1,8 +1,7 @@
 -- The bytes of a batch that is written.
-use Rattle.std.proofs.Common.{◌≡◌, ℕ, pos, ◌+◌, ◌-◌, ◌^◌, zero, suc, true, false, map, List, [], ◌∷◌, ◌++◌, Result, Ok, Err, inl, inr, ap, sym, subst, refl, ◌∙◌, append_assoc, arith, take, drop, length, slice_index_or, ◌<◌, ◌≤◌}
+use Rattle.std.proofs.Common.{◌≡◌, ℕ, pos, ◌+◌, ◌-◌, ◌^◌, zero, suc, false, map, List, [], ◌∷◌, ◌++◌, Result, Ok, Err, inl, inr, ap, sym, subst, refl, ◌∙◌, append_assoc, arith, take, drop, length, slice_index_or, ◌<◌}
 use Rattle.std.specs.List.{All}
 use Rattle.std.proofs.lemmas.List.Elements.{All-cons, All-head, All-tail, All-take}
-use Rattle.std.proofs.Math.ListN.{drop_of_length-le}
 use Rattle.std.proofs.lemmas.List.{drop_more, length-drop}
 use Rattle.std.proofs.lemmas.Bool.{cases_lt}
 use Rattle.eos_base.specs.Fallible.{◌>>=◌}
@@ -14,7 +13,6 @@ use Rattle.eos_batch.specs.Encoding.{tested, encoding_of, batch_text_of}
 use Rattle.eos_wire.specs.Writing.{IsShortest}
 use Rattle.eos_machine.specs.declared.config.Config.{Config}
 use Rattle.eos_machine.specs.declared.item.Item.{Item}
-use Rattle.eos_batch.specs.declared.record.Record.{Record}
 use Rattle.eos_machine.specs.LogIndexes.{IsConfig}
 use Rattle.eos_machine.specs.Fitting.{IsFit}
 use Rattle.eos_machine.specs.Grouping.{goes_on, joining}
@@ -125,22 +123,12 @@ one_left c q es o base n b x rest standing others items out new t h left at is0 
 
 -- ---- record by record
 
-pub record_more : (f : Item → Record) (xs : List Item) (x : Item) (i : ℕ) (all out : List Record) → i < length xs → x ≡ slice_index_or xs i x → all ≡ out ++ map f (drop i xs) → all ≡ (out ++ f x ∷ []) ++ map f (drop (i + 1) xs)
-record_more f xs x i all out l is h =
-    h ∙ (ap (λ ys. out ++ map f ys) (subst (λ z. drop i xs ≡ z ∷ drop (i + 1) xs) (sym is) (drop_more xs i x l)) ∙ sym (append_assoc out (f x ∷ []) (map f (drop (i + 1) xs))))
-
 -- ---- item by item
 
 pub within_all : {X : Type 0} (P : X → Type 0) (xs : List X) (n : ℕ) (d : X) → n < length xs → All P xs → P (slice_index_or xs n d)
 within_all P [] n d l h = absurd (omega (arith, l))
 within_all P (x ∷ xs) zero d l h = All-head P x xs h
 within_all P (x ∷ xs) (suc n) d l h = within_all P xs n d (omega (arith, l)) (All-tail P x xs h)
-
-pub one_joins : (k i : ℕ) (l y : Item) (xs : List Item) → i < length xs → y ≡ slice_index_or xs i y → i < k → goes_on l y ≡ true → i + joining (k - i) l (drop i xs) ≡ i + 1 + joining (k - (i + 1)) y (drop (i + 1) xs)
-one_joins k i l y xs m is b g =
-    let d : drop i xs ≡ y ∷ drop (i + 1) xs = subst (λ z. drop i xs ≡ z ∷ drop (i + 1) xs) (sym is) (drop_more xs i y m) in
-    let e : k - i ≡ suc (k - (i + 1)) = omega (arith, b) in
-    ap (λ ys. i + joining (k - i) l ys) d ∙ (ap (λ n. i + joining n l (y ∷ drop (i + 1) xs)) e ∙ (rw g (omega arith)))
 
 -- where there is no room, or it doesn't go on, none does
 pub no_room : (k i : ℕ) (l : Item) (xs : List Item) → i ≡ k → i + joining (k - i) l xs ≡ i
@@ -158,10 +146,6 @@ none_joins k i l y xs m is e =
     stops : (n : ℕ) (l y : Item) (ys : List Item) → goes_on l y ≡ false → joining n l (y ∷ ys) ≡ 0
     stops zero l y ys e = refl
     stops (suc n) l y ys e = rw e refl
-
--- behind the last there is none
-pub all_join : (k : ℕ) (l : Item) (xs : List Item) (i : ℕ) → length xs ≤ i → joining (k - i) l (drop i xs) ≡ 0
-all_join k l xs i h = ap (joining (k - i) l) (drop_of_length-le xs h)
 
 -- ---- segment by segment
 

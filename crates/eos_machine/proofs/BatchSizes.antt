@@ -1,5 +1,5 @@
 -- How long the batches of a cluster's items are: at most 2^20 bytes a record, of which a segment has at most a thousand.
-use Rattle.std.proofs.Common.{◌≡◌, ℕ, zero, suc, ◌+◌, ◌-◌, ◌*◌, ◌/◌, ◌%◌, ◌^◌, ◌<◌, ◌≤◌, ◌==◌, ◌&&◌, Bool, true, false, cond, ℤ, pos, negsuc, ◌-ℤ◌, List, [], ◌∷◌, ◌++◌, length, take, map, flat_map, Option, Some, None, Ok, refl, sym, ap, subst, ◌∙◌, arith}
+use Rattle.std.proofs.Common.{◌≡◌, ℕ, zero, suc, ◌+◌, ◌-◌, ◌*◌, ◌/◌, ◌%◌, ◌^◌, ◌≤◌, ◌==◌, ◌&&◌, Bool, true, false, cond, ℤ, pos, negsuc, ◌-ℤ◌, List, [], ◌∷◌, ◌++◌, length, take, map, flat_map, Option, Some, None, Ok, refl, ap, subst, ◌∙◌, arith}
 use Rattle.std.specs.Prelude.{nat_lt, nat_le, if◌then◌else◌, codes}
 use Rattle.std.specs.List.{All, list_all}
 use Rattle.std.proofs.lemmas.List.{length-append, length-take}
@@ -8,10 +8,8 @@ use Rattle.std.proofs.lemmas.Bool.{lt-ltb}
 use Rattle.eos_wire.specs.Numbers.{i8_text, i16_text, i32_text, i64_text}
 use Rattle.eos_wire.specs.Writing.{groups_of, varint_of, varlong_of, uvarint_of}
 use Rattle.eos_wire.proofs.NumberTexts.{length-i8_text, length-i16_text, length-i32_text, length-i64_text}
-use Rattle.eos_batch.specs.declared.marker.Kind.{Kind}
 use Rattle.eos_batch.specs.declared.record.Header.{Header}
 use Rattle.eos_batch.specs.declared.record.Record.{Record}
-use Rattle.eos_batch.specs.declared.batch.Batch.{Batch}
 use Rattle.eos_batch.specs.Encoding.{optional_text, header_text, headers_text, body_text, record_text, records_text, batch_text_of}
 use Rattle.eos_batch.proofs.EncodingSteps.{length-body_text}
 use Rattle.eos_batch.proofs.EncodingTexts.{length-bytes_text, length-header_text, length-record_text}

@@ -1,15 +1,14 @@
 -- No batch of a cluster's items is refused.
-use Rattle.std.proofs.Common.{◌≡◌, ℕ, suc, ◌+◌, ◌^◌, ◌<◌, ◌≤◌, ◌≤ℤ◌, ◌+ℤ◌, Bool, true, false, not, ℤ, pos, negsuc, List, [], ◌∷◌, map, length, Ok, refl, sym, ap, subst, ◌∙◌, arith}
+use Rattle.std.proofs.Common.{◌≡◌, ℕ, suc, ◌+◌, ◌^◌, ◌<◌, ◌≤ℤ◌, ◌+ℤ◌, Bool, true, false, pos, List, [], ◌∷◌, map, length, Ok, refl, arith}
 use Rattle.std.specs.Prelude.{int_lt, int_le, if◌then◌else◌}
 use Rattle.std.specs.List.{All}
 use Rattle.std.proofs.lemmas.Int.{ints}
 use Rattle.std.proofs.lemmas.List.{length-map}
-use Rattle.eos_batch.specs.declared.batch.Batch.{Batch}
 use Rattle.eos_batch.specs.declared.marker.Kind.TheVariants.{Commit, Abort}
 use Rattle.eos_batch.specs.Attributes.{is_compressed}
 use Rattle.eos_batch.specs.Marker.{has_right_control}
 use Rattle.eos_batch.specs.Rules.{IsCounted, has_right_producer}
-use Rattle.eos_batch.specs.Encoding.{tested, batch_text_of}
+use Rattle.eos_batch.specs.Encoding.{tested}
 use Rattle.eos_batch.proofs.EncodingTests.{passes_by}
 use Rattle.eos_wire.specs.Numbers.{i16_text, i32_text, i16_at, i32_at}
 use Rattle.eos_machine.specs.declared.config.Config.{Config}

@@ -22,17 +22,13 @@ use Rattle.eos_picture.specs.declared.mark.Column.{Column}
 use Rattle.eos_picture.specs.Order.{is_writer, offset_if, last_of, stands_at, standing, standings, IsOrderOf, is_of_name, nearness, near_to}
 use Rattle.eos_picture.specs.Window.{IsAtPlace, around_in, AreAround, listed, at_place}
 use Rattle.eos_picture.specs.steps.Standing.{IsNear, AreNoNearer}
-use Rattle.eos_picture.proofs.WholeRows.{drop_has, none_left}
+use Rattle.eos_picture.proofs.WholeRows.{drop_has}
 
 -- ---- the last data record
 
 or_assoc : {X : Type 0} (a b c : Option X) → option_or (option_or a b) c ≡ option_or a (option_or b c)
 or_assoc None b c = refl
 or_assoc (Some x) b c = refl
-
-pub or_none : {X : Type 0} (a : Option X) → option_or a None ≡ a
-or_none None = refl
-or_none (Some x) = refl
 
 -- what is left, one data record further
 pub last_next : (left rest : List Item) (x : Item) (w : ℤ × ℤ) (last now all : Option ℕ) → left ≡ x ∷ rest → now ≡ option_or (offset_if (is_writer x.writer w) x.offset) last
@@ -185,9 +181,6 @@ pub seen_here : (logs : List PartLog) (name : Option PartitionName) (c : Column)
     → most ≤ now → near ≤ now → AreSeen logs name c i most → AreSeen logs name c (i + 1) now
 seen_here logs name c i d p near most now lt is e more most_near before =
     seen_next logs name c i d most now lt more (subst (λ z. z ≤ now) (e ∙ ap (near_to name c) is) most_near) before
-
-pub seen_all : (logs : List PartLog) (name : Option PartitionName) (c : Column) (i most : ℕ) → length logs ≤ i → AreSeen logs name c i most → AreNoNearer logs name c most
-seen_all logs name c i most le seen q has = elim (seen q has) [ inl left ↦ absurd (none_left logs i q le left) | inr done ↦ done ]
 
 -- ---- the place in an order
 

@@ -1,5 +1,5 @@
 -- What is told of shapes that are drawn one after the other.
-use Rattle.std.proofs.Common.{◌≡◌, ◌<◌, ◌≤◌, ◌⊎◌, ℕ, ℤ, zero, suc, ◌+◌, List, [], ◌∷◌, ◌++◌, length, drop, get_or, flat_map, Option, None, Some, Bool, false, true, refl, sym, ap, subst, ◌∙◌, append_assoc, append-nil, arith, inl, inr, string_bytes}
+use Rattle.std.proofs.Common.{◌≡◌, ◌<◌, ◌≤◌, ◌⊎◌, ℕ, ℤ, zero, suc, ◌+◌, List, [], ◌∷◌, ◌++◌, length, drop, get_or, Option, Bool, false, refl, sym, ap, subst, ◌∙◌, append_assoc, append-nil, arith, inl, inr}
 use Rattle.std.proofs.lemmas.Grind.{flat_map-append}
 use Rattle.std.proofs.lemmas.List.{drop_more, drop_all}
 use Rattle.std.specs.Prelude.{slice_get}
@@ -10,7 +10,7 @@ use Rattle.eos_picture.specs.declared.mark.Row.{Row}
 use Rattle.eos_picture.specs.declared.shape.Shape.{Shape}
 use Rattle.eos_picture.specs.declared.times.Times.{Times}
 use Rattle.eos_picture.specs.Titles.{mark_offset, time_at, title_of}
-use Rattle.eos_picture.specs.Told.{telling, tellings, IsTitle, AreTold, AreRowsTold}
+use Rattle.eos_picture.specs.Told.{telling, tellings, AreTold, AreRowsTold}
 use Rattle.eos_picture.specs.steps.Tellings.{IsToldOf, IsToldIf, times_of}
 
 -- ---- shapes

@@ -85,6 +85,3 @@ one_row_more logs columns old new row p e has so before x h = elim (append_cases
     last : Has (row ∷ []) x → (q : PartLog) × Has logs q × IsTrueRow q columns x
     last (inl same) = (p, has, subst (λ z. IsTrueRow p columns z) same so)
     last (inr k) = absurd k
-
-pub no_rows : (logs : List PartLog) (columns : List Column) (rows : List Row) → rows ≡ [] → HasTrueRows logs columns rows
-no_rows logs columns rows e = subst (λ z. HasTrueRows logs columns z) (sym e) (λ row h. absurd h)

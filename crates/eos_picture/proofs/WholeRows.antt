@@ -1,5 +1,5 @@
 -- Marks that lack nothing, and one more.
-use Rattle.std.proofs.Common.{◌≡◌, ◌≢◌, ◌<◌, ◌≤◌, ◌⊎◌, ◌+◌, length, zero, suc, arith, refl, ℕ, ℤ, List, [], ◌∷◌, ◌++◌, drop, Option, Some, None, true, inl, inr, sym, ap, subst, ◌∙◌}
+use Rattle.std.proofs.Common.{◌≡◌, ◌≢◌, ◌<◌, ◌≤◌, ◌⊎◌, ◌+◌, length, zero, suc, arith, refl, ℕ, ℤ, List, [], ◌∷◌, ◌++◌, drop, Option, Some, None, inl, inr, sym, ap, subst, ◌∙◌}
 use Rattle.std.specs.List.{slice_get, slice_index_or, AllPairs}
 use Rattle.std.specs.Option.{option_or}
 use Rattle.std.proofs.lemmas.Bool.{cases_lt}
@@ -19,7 +19,6 @@ use Rattle.eos_picture.specs.declared.mark.Sign.{Sign}
 use Rattle.eos_picture.specs.declared.mark.Sign.TheVariants as signs
 use Rattle.eos_picture.specs.Marks.{HasTrueRows}
 use Rattle.eos_picture.specs.Signs.{IsOfWriter}
-use Rattle.eos_table.specs.TransactionLog.{is_transaction_part}
 use Rattle.eos_picture.specs.Whole.{IsAt, IsMarkOf, Shows, ShowsRecord, ShowsDecision, ShowsEnds, ShowsMissing, ShowsClose, IsWhole, IsCovered}
 use Rattle.eos_picture.specs.Ends.{ends}
 use Rattle.eos_picture.specs.steps.Acts.{FindsDecision, FindsEnds, FindsMissing, FindsClose, IsShown, ShowsActs}
@@ -89,24 +88,12 @@ none_left [] (suc i) y le h = h
 none_left (x ∷ xs) zero y le h = omega (arith, le)
 none_left (x ∷ xs) (suc i) y le h = none_left xs i y (omega (arith, le)) h
 
--- a place that there is
-pub inside_of : (columns : List Column) (i : ℕ) (w : ℤ × ℤ) → IsOfWriter (slice_get columns i) w → (c : Column) × (slice_get columns i ≡ Some c)
-inside_of columns i w h = go (slice_get columns i) refl h
-  where
-    go : (o : Option Column) → slice_get columns i ≡ o → IsOfWriter o w → (c : Column) × (slice_get columns i ≡ Some c)
-    go None e k = absurd k
-    go (Some c) e k = (c, e)
-
 -- below the next place is below this one, or this one
 pub below_next : (P : ℕ → Type 0) (i : ℕ) → ((j : ℕ) → j < i → P j) → P i → (j : ℕ) → j < i + 1 → P j
 below_next P i before now j lt = elim (cases_lt j i) [
   | inl l ↦ before j l
   | inr r ↦ let e : i ≡ j = omega (arith, lt, r) in subst P e now
 ]
-
--- nobody writes behind the end
-pub none_behind : (columns : List Column) (i : ℕ) (w : ℤ × ℤ) → length columns ≤ i → IsOfWriter (slice_get columns i) w → ⊥
-none_behind columns i w le h = subst (λ z. IsOfWriter z w) (slice_get_past columns i le) h
 
 -- ---- what each function adds
 
@@ -305,13 +292,6 @@ pub of_writer : (logs : List PartLog) (every : List Column) (place : Place) (q :
 of_writer logs every place q r near has_q named found is p x w i alone plain has at by of =
     let same : q ≡ p = alone.alone q has_q named in
     placed every w r i (is w (found x w (subst (λ (z : PartLog). Has z.items x) (sym same) has) at by)) of
-
-pub of_log : (logs : List PartLog) (every : List Column) (place : Place) (q : PartLog) (r : Option ℕ) → Has logs q → part_name q ≡ place.partition → is_transaction_part q ≡ true
-    → IsOfRecordAt logs every r place
-of_log logs every place q r has_q named t p x w i alone plain has at by of =
-    let same : q ≡ p = alone.alone q has_q named in
-    let log : is_transaction_part p ≡ true = subst (λ z. is_transaction_part z ≡ true) same t in
-    absurd cc
 
 -- those of the name are yet to come
 abbrev pub IsAhead : List PartLog → ℕ → PartitionName → Type 0

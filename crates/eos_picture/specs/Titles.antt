@@ -1,6 +1,6 @@
 -- What is told of a mark where a pointer rests on it: its place, what it is, of which transaction it is, when its record was written, and
 -- whether it is a place of the fault.
-use Rattle.std.specs.Prelude.{ℕ, ℤ, pos, List, [], ◌∷◌, ◌++◌, Option, None, Some, Bool, true, false, ◌==◌, nat_lt, int_lt, codes, if◌then◌else◌}
+use Rattle.std.specs.Prelude.{ℕ, ℤ, List, [], ◌∷◌, ◌++◌, Option, None, Some, Bool, true, false, ◌==◌, nat_lt, int_lt, codes, if◌then◌else◌}
 use Rattle.std.specs.Fmt.{decimal, signed_decimal}
 use Rattle.std.specs.Ordering.{int_eq}
 use Rattle.eos_base.specs.declared.partition_name.PartitionName.{PartitionName}

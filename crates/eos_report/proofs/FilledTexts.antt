@@ -1,5 +1,5 @@
 -- The text of a report reads back with its faults in, where the text of the report that lists none does.
-use Rattle.std.proofs.Common.{◌≡◌, ◌≤◌, ◌<◌, ◌∙◌, ℕ, suc, max, List, [], ◌∷◌, ◌++◌, Bool, true, false, Option, Some, None, option_map, option_and_then, codes, drop, length, refl, sym, ap, ap₂, subst, arith, append_assoc, append-nil, fold, Ordering, Greater, nat_cmp}
+use Rattle.std.proofs.Common.{◌≡◌, ◌≤◌, ◌∙◌, ℕ, suc, max, List, [], ◌∷◌, ◌++◌, Bool, true, false, Option, Some, None, option_map, option_and_then, codes, drop, refl, sym, ap, ap₂, subst, arith, append_assoc, append-nil, fold, Greater, nat_cmp}
 use Rattle.std.specs.Prelude.{⊤}
 use Rattle.std.specs.Cmp.Lexicographic.{slice_cmp}
 use Rattle.std.specs.Str.{IsCharBoundary}
@@ -14,7 +14,7 @@ use Rattle.json.proofs.Printed.Tokens.{tokens-print, print_from-append}
 use Rattle.json.proofs.Printed.Trees.{value-json_tokens, ArePrintable-json_tokens}
 use Rattle.serde_json.specs.Data.{Data, null, boolean, number, string, array, object, Items, no_items, item, Members, no_members, member, put, depth, items_depth, members_depth}
 use Rattle.serde_json.specs.Read.{read, max_depth, of_json, of_items, of_members}
-use Rattle.serde_json.specs.Written.{outline, items_outline, members_outline, blank, blank_items, blank_members, IsInOrder, compact_text, items_text, has_float}
+use Rattle.serde_json.specs.Written.{outline, items_outline, members_outline, blank, blank_items, blank_members, items_text}
 use Rattle.serde_json.proofs.Texts.{print-outline}
 use Rattle.eos_report.specs.steps.Texts.{head, array_end, IsRead, AreRead, IsTextOf}
 

@@ -1,7 +1,7 @@
 -- What a page says of a check, for people: the verdict and what it means, the notes, the faults that are told by their kinds and the
 -- first ten of them, and the tables of partitions and groups; it ends with the stories of these ten and their pictures. Only how it looks
 -- is left open: the style sheet in its head.
-use Rattle.std.specs.Prelude.{◌≡◌, ℕ, ℤ, List, [], ◌∷◌, ◌++◌, length, take, Bool, ◌&&◌, ◌==◌, codes, Option, None, Some}
+use Rattle.std.specs.Prelude.{◌≡◌, ℕ, List, [], ◌∷◌, ◌++◌, length, take, Bool, ◌&&◌, ◌==◌, codes, Option, None, Some}
 use Rattle.std.specs.List.{flat_map, filter, find}
 use Rattle.std.specs.Fmt.{decimal}
 use Rattle.eos_verdict.specs.declared.verdict.Counts.{Counts}

@@ -75,9 +75,6 @@ listed_from lines_of byte bytes fits = listed_within lines_of (length (drop byte
 
 -- ---- the loop
 
-pub starts : (lines_of : LinesOf) (bytes : List ℕ) (old : Option (List ℕ)) → HasListed lines_of bytes old old [] 0
-starts lines_of bytes old = record { written = []; grown = Appends-nil old; within = omega arith; goes_on = λ text status h. h }
-
 pub goes_on : (lines_of : LinesOf) (bytes : List ℕ) (old new : Option (List ℕ)) (held more : List ℕ) (byte size : ℕ) (b : Batch) → HasListed lines_of bytes old new held byte
     → IsBatchText (take size (drop byte bytes)) b → byte + size ≤ length bytes → Adds held more (lines_of byte b) → HasListed lines_of bytes old new more (byte + size)
 goes_on lines_of bytes old new held more byte size b h is le adds =

@@ -1,6 +1,6 @@
 -- The batches of a log say what its items say as batches of their own: of offsets, markers, records and closes the same, and what
 -- the machine promises of touches holds of theirs too.
-use Rattle.std.proofs.Common.{◌≡◌, ◌↔◌, ℕ, zero, suc, ◌+◌, ◌-◌, ◌*◌, ◌<◌, ◌≤◌, ℤ, pos, Bool, true, false, not, List, [], ◌∷◌, ◌++◌, map, length, take, drop, Option, Some, None, refl, sym, ap, subst, ◌∙◌, arith, inl, inr, ◌⊎◌, append_assoc, append-nil}
+use Rattle.std.proofs.Common.{◌≡◌, ◌↔◌, ℕ, zero, suc, ◌+◌, ◌-◌, ℤ, pos, Bool, true, false, List, [], ◌∷◌, ◌++◌, map, length, take, Option, Some, None, refl, sym, ap, subst, ◌∙◌, arith, inl, inr}
 use Rattle.std.specs.Prelude.{int_lt, if◌then◌else◌}
 use Rattle.std.specs.Option.{option_or, option_map, option_to_list}
 use Rattle.std.specs.Ordering.{int_eq}
@@ -12,7 +12,7 @@ use Rattle.eos_batch.specs.Attributes.{is_transactional, is_control}
 use Rattle.eos_batch.specs.Offsets.{offset_of}
 use Rattle.eos_batch.specs.Marker.{marker_of, markers_of}
 use Rattle.eos_touch.specs.declared.touch.Touch.{Touch}
-use Rattle.eos_touch.specs.declared.touch.Touch.TheVariants.{Data, End}
+use Rattle.eos_touch.specs.declared.touch.Touch.TheVariants.{Data}
 use Rattle.eos_touch.specs.Pair.{is_open}
 use Rattle.eos_touch.specs.Front.{records_in, ContinuesFrom}
 use Rattle.eos_touch.specs.Neighbours.{EachAfter, Accepts}

@@ -1,20 +1,17 @@
 -- Every transaction of a cluster at rest is committed in all its partitions or aborted in all.
-use Rattle.std.proofs.Common.{◌≡◌, ℕ, zero, suc, ◌+◌, ◌<◌, ◌≤◌, ◌==◌, ℤ, pos, negsuc, Bool, true, false, List, [], ◌∷◌, ◌++◌, map, length, Option, Some, None, refl, sym, ap, subst, ◌∙◌, arith, inl, inr, ◌⊎◌}
+use Rattle.std.proofs.Common.{◌≡◌, ℕ, zero, suc, ◌+◌, ◌<◌, ◌≤◌, ◌==◌, pos, Bool, true, false, List, [], ◌∷◌, ◌++◌, length, Option, Some, None, refl, sym, ap, subst, ◌∙◌, arith, inl, inr}
 use Rattle.std.specs.Prelude.{slice_index_or, if◌then◌else◌, ⊤}
 use Rattle.std.specs.Option.{option_or, option_to_list}
-use Rattle.std.specs.List.{All, Contains, cons_option}
-use Rattle.std.specs.Ordering.{int_eq}
-use Rattle.std.proofs.lemmas.Bool.{cases_lt, cases_eq, eqb-true, eq-eqb}
+use Rattle.std.specs.List.{Contains, cons_option}
+use Rattle.std.proofs.lemmas.Bool.{cases_lt, eqb-true, eq-eqb}
 use Rattle.std.proofs.lemmas.List.Elements.{All-contains}
 use Rattle.eos_base.specs.Members.{Has}
 use Rattle.eos_base.specs.declared.partition_name.PartitionName.{PartitionName}
-use Rattle.eos_base.proofs.Membership.{append_cases, append_left, append_right}
+use Rattle.eos_base.proofs.Membership.{append_cases}
 use Rattle.eos_batch.specs.declared.batch.Batch.{Batch}
 use Rattle.eos_batch.specs.declared.marker.Kind.{Kind}
-use Rattle.eos_batch.specs.declared.marker.Kind.TheVariants.{Commit, Abort}
 use Rattle.eos_batch.specs.declared.marker.Marker.{Marker as EndMarker}
-use Rattle.eos_touch.specs.declared.touch.Touch.{Touch}
-use Rattle.eos_touch.specs.declared.touch.Touch.TheVariants.{Data, End}
+use Rattle.eos_touch.specs.declared.touch.Touch.TheVariants.{End}
 use Rattle.eos_txnlog.specs.declared.decision.Decision.{Decision}
 use Rattle.eos_fold.specs.declared.mark.EndMark.{EndMark}
 use Rattle.eos_batch.specs.Offsets.{offset_of}
@@ -25,13 +22,13 @@ use Rattle.eos_batch.specs.Marker.{markers_of}
 use Rattle.eos_fold.specs.Parts.{part_name, PartLog}
 use Rattle.eos_touch.specs.Touches.{touch_of}
 use Rattle.eos_txnlog.specs.PartitionSets.{names_of}
-use Rattle.eos_table.specs.Atomic.{IsOf, EndsAs, Ends, AreOfOne, NoTwo, Atomic}
+use Rattle.eos_table.specs.Atomic.{IsOf, EndsAs, Ends, Atomic}
 use Rattle.eos_table.specs.TransactionLog.{transaction_parts}
 use Rattle.eos_table.specs.TransactionLog as table
 use Rattle.eos_machine.specs.declared.config.Config.{Config}
 use Rattle.eos_machine.specs.declared.item.Item.{Item}
 use Rattle.eos_machine.specs.declared.item.Item.TheVariants.{Fed, State, Output, Offset, Marker}
-use Rattle.eos_machine.specs.LogIndexes.{log_count, topic_of, number_of}
+use Rattle.eos_machine.specs.LogIndexes.{log_count}
 use Rattle.eos_machine.specs.World.{World, log_at}
 use Rattle.eos_machine.specs.Application as app
 use Rattle.eos_machine.specs.Application.{Mark, IsOrdered, IsClosed, Fate, Matched, Never, first_end, Decision as Decided}
@@ -40,9 +37,9 @@ use Rattle.eos_machine.specs.Rest.{producer_id, decisions_of, marks_at, by_topic
 use Rattle.eos_simulate.proofs.Singles.{item_batch, singles_from}
 use Rattle.eos_simulate.proofs.LogTouches.{end_marker, item_touch, item_marker, marker_is, touch_is, same_producer}
 use Rattle.eos_simulate.proofs.ListedNames.{has_contained, contains_had, name_at, listed_at, at_listed}
-use Rattle.eos_simulate.proofs.Settled.{IsSettled, IsLog, AreAt, in_logs, at_logs, log_batches}
+use Rattle.eos_simulate.proofs.Settled.{IsSettled, IsLog, AreAt, in_logs, at_logs}
 use Rattle.eos_simulate.proofs.TxnRules.{as_decision}
-use Rattle.eos_simulate.proofs.Decisions.{IsDecided, decision_of_all, all_decisions, once}
+use Rattle.eos_simulate.proofs.Decisions.{decision_of_all, all_decisions, once}
 
 -- ---- marks of an application among the items
 
@@ -162,11 +159,6 @@ each_close c ds p o (x ∷ xs) h co m = by x h m (each_close c ds p (o + 1) xs (
     ]
 
 -- ---- markers
-
-listed_is : (o : Option EndMarker) (m : EndMarker) → Has (option_to_list o) m → o ≡ Some m
-listed_is None m h = absurd h
-listed_is (Some n) m (inl e) = ap Some e
-listed_is (Some n) m (inr h) = absurd h
 
 marker_step : (c : Config) (o : ℕ) (x : Item) (xs : List Item) → markers_of (singles_from c o (x ∷ xs)) ≡ option_to_list (item_marker x) ++ markers_of (singles_from c (o + 1) xs)
 marker_step c o x xs = ap (λ t. option_to_list t ++ markers_of (singles_from c (o + 1) xs)) (marker_is c o x)

@@ -1,8 +1,8 @@
 -- The decisions of the evidence are those of the machine, and no two are of one producer id and epoch.
-use Rattle.std.proofs.Common.{◌≡◌, ◌≢◌, ℕ, zero, suc, ◌+◌, ◌<◌, ◌≤◌, ℤ, pos, Bool, true, false, List, [], ◌∷◌, ◌++◌, map, length, Option, Some, None, cond, refl, sym, ap, subst, ◌∙◌, arith, inl, inr, ◌⊎◌}
-use Rattle.std.specs.Prelude.{unsigned_abs, slice_index_or, ⊤}
+use Rattle.std.proofs.Common.{◌≡◌, ◌≢◌, ℕ, zero, suc, ◌+◌, ◌≤◌, pos, Bool, true, false, List, [], ◌∷◌, ◌++◌, map, Option, Some, None, cond, refl, sym, ap, subst, ◌∙◌, arith, inl, inr}
+use Rattle.std.specs.Prelude.{unsigned_abs, ⊤}
 use Rattle.std.specs.List.{All, AllPairs, filter, flat_map}
-use Rattle.std.proofs.lemmas.Bool.{cases_eq, cases_lt, ne_eqb, eq-eqb}
+use Rattle.std.proofs.lemmas.Bool.{cases_eq}
 use Rattle.eos_base.specs.Members.{Has}
 use Rattle.eos_base.proofs.Membership.{append_cases, flat_has, has_flat, map_has, has_map, has_filter, filter_has}
 use Rattle.eos_touch.proofs.AllTouches.{AllPairs-head, AllPairs-tail}
@@ -10,22 +10,21 @@ use Rattle.eos_batch.specs.declared.marker.Kind.{Kind}
 use Rattle.eos_txnlog.specs.declared.decision.Decision.{Decision}
 use Rattle.eos_txnlog.specs.declared.value.TxnValue.{TxnValue}
 use Rattle.eos_fold.specs.Parts.{PartLog}
-use Rattle.eos_table.specs.TransactionLog.{Unskipped, nothing, flat, steps_of, all_steps, steps_after, kind_of_status, decided_as, decision_between, decision_of, is_transaction_part, transaction_parts}
+use Rattle.eos_table.specs.TransactionLog.{Unskipped, nothing, steps_of, all_steps, steps_after, kind_of_status, decided_as, decision_between, decision_of, is_transaction_part, transaction_parts}
 use Rattle.eos_table.specs.TransactionLog as table
 use Rattle.eos_table.specs.Atomic.{AreOfOne, NoTwo}
 use Rattle.eos_machine.specs.declared.config.Config.{Config}
 use Rattle.eos_machine.specs.LogIndexes.{txn_index, log_count}
-use Rattle.eos_machine.specs.declared.item.Item.{Item}
 use Rattle.eos_machine.specs.World.{World, fresh, log_at}
 use Rattle.eos_machine.specs.Application.{Decision as Decided}
 use Rattle.eos_machine.specs.Logs.{entries_of, decisions_from}
-use Rattle.eos_machine.specs.Rest.{producer_id, decisions_of}
+use Rattle.eos_machine.specs.Rest.{decisions_of}
 use Rattle.eos_machine.proofs.Good.{Steps}
 use Rattle.eos_machine.specs.Batches.{transactional_id}
-use Rattle.eos_simulate.proofs.Settled.{IsSettled, IsLog, AreAt, in_logs}
-use Rattle.eos_simulate.proofs.TxnRecords.{one_app, is_same_id, records_from, AreStates, of_app, own_steps, own_among, IsStepOf}
+use Rattle.eos_simulate.proofs.Settled.{IsSettled, AreAt}
+use Rattle.eos_simulate.proofs.TxnRecords.{one_app, is_same_id, records_from, of_app, own_steps, own_among}
 use Rattle.eos_simulate.proofs.TxnRules.{as_decision, own_decide}
-use Rattle.eos_simulate.proofs.TransactionRule.{IsTxnLog, in_txn, at_txn, states_at, num, steps_are, IsStepAt, step_in, no_entries, one_producer}
+use Rattle.eos_simulate.proofs.TransactionRule.{IsTxnLog, in_txn, at_txn, states_at, num, steps_are, step_in, one_producer}
 
 -- ---- the decisions in one partition
 

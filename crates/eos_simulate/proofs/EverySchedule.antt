@@ -1,17 +1,15 @@
 -- The theorem on every schedule.
-use Rattle.std.proofs.Common.{◌≡◌, ℕ, List, sym, subst, refl}
+use Rattle.std.proofs.Common.{List, sym, subst}
 use Rattle.eos_evidence.specs.Evidence.{EvidenceParts, IsEvidence}
 use Rattle.eos_fold.specs.Parts.{PartLog}
 use Rattle.eos_table.specs.TransactionLog.{transaction_parts, decisions_of}
 use Rattle.eos_table.proofs.LogLaw.{law as log_law}
 use Rattle.eos_table.proofs.AtomicLaw.{law as atomic_law}
-use Rattle.eos_machine.specs.declared.config.Config.{Config}
-use Rattle.eos_machine.specs.declared.event.Event.{Event}
-use Rattle.eos_machine.specs.LogIndexes.{IsConfig, txn_index, log_count}
-use Rattle.eos_machine.specs.World.{World, opening, log_at}
+use Rattle.eos_machine.specs.LogIndexes.{txn_index}
+use Rattle.eos_machine.specs.World.{opening, log_at}
 use Rattle.eos_machine.specs.Machine.{world_after}
 use Rattle.eos_machine.specs.Elections.{LosesNothing}
-use Rattle.eos_machine.specs.Rest.{IsAtRest, NeighboursFit, AllAtomic}
+use Rattle.eos_machine.specs.Rest.{AllAtomic}
 use Rattle.eos_machine.proofs.Good.{Good}
 use Rattle.eos_machine.proofs.Counting.{IsCounted, counted_run, counted_opening}
 use Rattle.eos_machine.proofs.GoodEvents.{good_run}
@@ -23,7 +21,7 @@ use Rattle.eos_verdict.specs.declared.verdict.Fault.TheVariants.{Partition as In
 use Rattle.eos_verdict.specs.declared.verdict.Verdict.{Verdict}
 use Rattle.eos_verdict.specs.declared.verdict.Verdict.TheVariants.{Yes, No}
 use Rattle.eos_commits.specs.EvidenceLogs.{AreLogsOf}
-use Rattle.eos_check.specs.Verdicts.{Stands, IsVerdict, IsVerdictOf}
+use Rattle.eos_check.specs.Verdicts.{Stands, IsVerdict}
 use Rattle.eos_check.proofs.GoodLaw.{none_from}
 use Rattle.eos_commits.proofs.LogsInOrder.{in_order}
 use Rattle.eos_check.proofs.TransactionLogInOrder.{log_in_order}

@@ -9,7 +9,6 @@ use Rattle.std.proofs.Math.Nat.{div-add-mod, mul_comm, mul-le-mul_right, add-mul
 use Rattle.eos_wire.specs.Numbers.{IsBytes, i16_text, i32_text, i64_text}
 use Rattle.eos_wire.proofs.NumberTexts.{IsBytes-append}
 use Rattle.eos_batch.specs.declared.marker.Kind.{Kind}
-use Rattle.eos_batch.specs.declared.record.Header.{Header}
 use Rattle.eos_batch.specs.Encoding.{batch_text_of}
 use Rattle.eos_batch.specs.Text.{IsBatchText}
 use Rattle.eos_batch.specs.steps.Writing.{HasRecordWidths}

@@ -1,19 +1,18 @@
 -- What a batch of two and more says: what its first record says as a batch of its own, and then the others as one.
-use Rattle.std.proofs.Common.{◌≡◌, ℕ, zero, suc, ◌+◌, ℤ, pos, negsuc, ◌+ℤ◌, ◌^◌, Bool, true, false, not, ◌&&◌, List, [], ◌∷◌, ◌++◌, map, length, Option, Some, None, refl, sym, ap, subst, ◌∙◌, arith, inl, inr, ◌⊎◌}
+use Rattle.std.proofs.Common.{◌≡◌, ℕ, suc, ◌+◌, ℤ, pos, negsuc, ◌+ℤ◌, ◌^◌, Bool, true, false, not, ◌&&◌, List, [], ◌∷◌, length, Option, Some, None, refl, sym, ap, subst, ◌∙◌, arith, inl, inr, ◌⊎◌}
 use Rattle.std.specs.Prelude.{int_lt, if◌then◌else◌}
 use Rattle.std.specs.Int.{int_rem_euclid}
 use Rattle.std.specs.Ordering.{int_eq}
 use Rattle.std.proofs.lemmas.Int.{ints}
 use Rattle.std.proofs.lemmas.Bool.{and_parts, eqb-true}
 use Rattle.std.proofs.lemmas.Bool.Decides.{Decides-int_eq}
-use Rattle.eos_batch.specs.declared.batch.Batch.{Batch}
 use Rattle.eos_batch.specs.Attributes.{is_transactional, is_control}
 use Rattle.eos_touch.specs.declared.touch.Touch.{Touch}
 use Rattle.eos_touch.specs.declared.touch.Touch.TheVariants.{Data, End}
 use Rattle.eos_touch.specs.Pair.{sequence_at}
 use Rattle.eos_touch.specs.Neighbours.{EachAfter, Accepts}
 use Rattle.eos_touch.specs.Touches.{touch_of}
-use Rattle.eos_touch.proofs.TableRows.{IsClean, is_clean, is_accepted}
+use Rattle.eos_touch.proofs.TableRows.{is_clean, is_accepted}
 use Rattle.eos_machine.specs.declared.config.Config.{Config}
 use Rattle.eos_machine.specs.declared.item.Item.{Item}
 use Rattle.eos_machine.specs.declared.item.Item.TheVariants.{Fed, State, Output, Offset, Marker}

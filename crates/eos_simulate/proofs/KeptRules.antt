@@ -1,13 +1,10 @@
 -- Each partition's log of a cluster at rest is whole, sequenced and fenced.
-use Rattle.std.proofs.Common.{◌≡◌, ◌≢◌, ◌↔◌, ℕ, zero, suc, ◌+◌, ◌<◌, ◌≤◌, ℤ, pos, Bool, true, false, not, List, [], ◌∷◌, map, length, Option, Some, None, refl, sym, ap, subst, ◌∙◌, arith, inl, inr}
-use Rattle.std.specs.Prelude.{⊤}
+use Rattle.std.proofs.Common.{◌≡◌, ◌↔◌, ℕ, zero, suc, ◌+◌, ◌<◌, ◌≤◌, ℤ, pos, Bool, true, not, List, [], ◌∷◌, map, length, Option, Some, None, refl, sym, ap, subst, ◌∙◌, arith, inl, inr}
 use Rattle.std.specs.Option.{option_map}
 use Rattle.std.specs.List.{range_with_len}
-use Rattle.std.proofs.lemmas.Bool.{cases_lt}
 use Rattle.eos_base.specs.Members.{Has}
 use Rattle.eos_batch.specs.declared.batch.Batch.{Batch}
 use Rattle.eos_evidence.specs.declared.partition.Partition.{Partition}
-use Rattle.eos_evidence.specs.declared.segment.Segment.{Segment}
 use Rattle.eos_evidence.specs.Topics.{is_internal}
 use Rattle.eos_touch.specs.declared.touch.Touch.{Touch}
 use Rattle.eos_touch.specs.Pair.{is_open}
@@ -28,11 +25,9 @@ use Rattle.eos_fold.specs.Standing.{StandsIn, IsOpen}
 use Rattle.eos_fold.specs.Closes.{closes_of}
 use Rattle.eos_fold.specs.Settling.{data_in}
 use Rattle.eos_machine.specs.declared.config.Config.{Config}
-use Rattle.eos_machine.specs.LogIndexes.{IsConfig, log_count, topic_of, number_of, is_sequenced}
-use Rattle.eos_machine.specs.declared.item.Item.{Item}
+use Rattle.eos_machine.specs.LogIndexes.{log_count, topic_of, number_of, is_sequenced}
 use Rattle.eos_machine.specs.World.{World, log_at}
-use Rattle.eos_machine.specs.Rest.{NeighboursFit, AllAtomic, StepsFit, IsAtRest, decisions_of}
-use Rattle.eos_machine.proofs.Good.{Good}
+use Rattle.eos_machine.specs.Rest.{decisions_of}
 use Rattle.eos_check.specs.PartitionRules.{KeepsRules}
 use Rattle.eos_commits.specs.EvidenceLogs.{IsLogOf, AreLogsOf}
 use Rattle.eos_check.specs.Good.{IsKeptLog, AreKeptLogs}
@@ -41,7 +36,6 @@ use Rattle.eos_check.proofs.PairFaults.{EachHasRecords, touches_have_records, no
 use Rattle.eos_check.proofs.RulesLaw.{right_front, have_records, NoFault, law as rules_law}
 use Rattle.eos_machine.specs.Evidences.{log_segments}
 use Rattle.eos_machine.proofs.PlaceNames.{sequenced_is}
-use Rattle.eos_simulate.proofs.Placing.{Placed}
 use Rattle.eos_simulate.proofs.Partitions.{partition_at}
 use Rattle.eos_simulate.proofs.Settled.{IsSettled, IsLog, AreAt, log_batches}
 use Rattle.eos_simulate.proofs.WholeFronts.{all_batches, records_are, whole_front, all_agree}

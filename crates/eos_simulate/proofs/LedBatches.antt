@@ -1,8 +1,7 @@
 -- Batches in their leader epochs say what they say without.
-use Rattle.std.proofs.Common.{◌≡◌, ◌↔◌, ℕ, ℤ, Bool, List, [], ◌∷◌, ◌++◌, map, Option, Some, None, refl, sym, ap, subst, ◌∙◌}
+use Rattle.std.proofs.Common.{◌≡◌, ℕ, ℤ, List, [], ◌∷◌, ◌++◌, map, Option, Some, None, refl, sym, ap, subst, ◌∙◌}
 use Rattle.std.specs.Prelude.{if◌then◌else◌}
 use Rattle.std.specs.Option.{option_or, option_map, option_to_list}
-use Rattle.eos_base.specs.Members.{Has}
 use Rattle.eos_batch.specs.declared.batch.Batch.{Batch}
 use Rattle.eos_batch.specs.declared.marker.Kind.{Kind}
 use Rattle.eos_batch.specs.declared.marker.Marker.{Marker}
@@ -13,9 +12,7 @@ use Rattle.eos_batch.specs.Marker.{end_kind, coordinator_epoch_of, marker_with, 
 use Rattle.eos_touch.specs.declared.touch.Touch.{Touch}
 use Rattle.eos_touch.specs.Neighbours.{EachAfter, Accepts}
 use Rattle.eos_touch.specs.Touches.{end_touch, data_touch, touch_of, touch_in, touches_of}
-use Rattle.eos_fold.specs.declared.close.Close.{Close}
-use Rattle.eos_fold.specs.Ends.{mark_of, mark_in, mark_for, first_marker}
-use Rattle.eos_fold.specs.Closes.{closes_of}
+use Rattle.eos_fold.specs.Ends.{mark_in, mark_for, first_marker}
 use Rattle.eos_machine.specs.declared.state.Election.{Election}
 use Rattle.eos_machine.specs.Batches.{led}
 use Rattle.eos_simulate.proofs.Agreeing.{last_open, Agrees, agrees_nil, agrees_after}

@@ -1,5 +1,5 @@
 -- Whatever events a cluster has taken, there is evidence of its logs within the room.
-use Rattle.std.proofs.Common.{◌*◌, List, [], ◌∷◌, refl, sym, subst, arith}
+use Rattle.std.proofs.Common.{◌*◌, List, [], ◌∷◌, refl, sym, subst}
 use Rattle.std.specs.List.{All}
 use Rattle.std.proofs.lemmas.List.Elements.{All-nil, All-cons, All-head, All-tail, All-weaker}
 use Rattle.eos_wire.specs.Numbers.{IsBytes}

@@ -1,6 +1,6 @@
 -- What the batches of a log say of each producer id, and that it is what the machine says.
-use Rattle.std.proofs.Common.{◌≡◌, ℕ, zero, suc, ◌+◌, ◌-◌, ◌<◌, ◌≤◌, ◌==◌, ℤ, pos, negsuc, Bool, true, false, not, List, [], ◌∷◌, ◌++◌, map, Option, Some, None, refl, sym, ap, subst, ◌∙◌, arith, inl, inr, ◌⊎◌}
-use Rattle.std.specs.Prelude.{int_lt, if◌then◌else◌, ⊤}
+use Rattle.std.proofs.Common.{◌≡◌, ℕ, ◌+◌, ◌-◌, ◌<◌, ◌==◌, ℤ, pos, negsuc, Bool, true, false, List, [], ◌∷◌, ◌++◌, map, Option, Some, None, refl, sym, ap, subst, ◌∙◌, arith, inl, inr, ◌⊎◌}
+use Rattle.std.specs.Prelude.{int_lt, if◌then◌else◌}
 use Rattle.std.specs.Option.{option_or}
 use Rattle.std.specs.Ordering.{int_eq}
 use Rattle.std.specs.List.{cons_option}
@@ -23,7 +23,7 @@ use Rattle.eos_machine.specs.LogIndexes.{is_sequenced}
 use Rattle.eos_machine.specs.declared.item.Item.{Item}
 use Rattle.eos_machine.specs.declared.item.Item.TheVariants.{Fed, State, Output, Offset, Marker}
 use Rattle.eos_machine.specs.World.{World, log_at}
-use Rattle.eos_machine.specs.Application.{Mark, Decision, Matched, Never, first_end}
+use Rattle.eos_machine.specs.Application.{Mark, Decision, Matched, Never}
 use Rattle.eos_machine.specs.Application as app
 use Rattle.eos_machine.specs.Logs.{marks_of}
 use Rattle.eos_machine.specs.Rest as rest

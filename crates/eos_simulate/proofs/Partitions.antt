@@ -1,5 +1,5 @@
 -- The partitions of a cluster's evidence: one for each place, with the segments of its log.
-use Rattle.std.proofs.Common.{◌≡◌, ℕ, zero, suc, ◌+◌, ◌*◌, ◌<◌, ◌≤◌, ℤ, pos, Bool, true, false, ◌&&◌, List, [], ◌∷◌, ◌++◌, map, Option, Some, None, Result, Ok, Err, refl, sym, ap, subst, ◌∙◌, arith, inl, inr, ◌⊎◌, append_assoc, append-nil}
+use Rattle.std.proofs.Common.{◌≡◌, ℕ, zero, suc, ◌+◌, ◌*◌, ◌<◌, ◌≤◌, pos, Bool, true, false, ◌&&◌, List, [], ◌∷◌, ◌++◌, map, Option, Some, None, Result, Ok, Err, refl, sym, ap, subst, ◌∙◌, arith, inl, inr, append_assoc, append-nil}
 use Rattle.std.specs.Prelude.{int_lt, nat_le, unsigned_abs, bytes_eq, find, if◌then◌else◌, length}
 use Rattle.std.specs.List.{flat_map, range_with_len}
 use Rattle.std.specs.Ordering.{int_eq}
@@ -10,14 +10,13 @@ use Rattle.std.proofs.lemmas.Slice.Eq.{bytes_eq-Decides}
 use Rattle.eos_base.specs.Members.{Has}
 use Rattle.eos_base.specs.Fallible.{◌>>=◌}
 use Rattle.eos_base.proofs.Membership.{append_cases}
-use Rattle.eos_evidence.specs.declared.ends.End.{End}
 use Rattle.eos_evidence.specs.declared.segment.Segment.{Segment}
 use Rattle.eos_evidence.specs.declared.partition.Partition.{Partition}
 use Rattle.eos_evidence.specs.declared.fault.AddFault.{AddFault}
 use Rattle.eos_evidence.specs.declared.fault.AddFault.TheVariants as add_faults
 use Rattle.eos_evidence.specs.declared.fault.SpecFault.{SpecFault}
 use Rattle.eos_evidence.specs.declared.fault.SpecFault.TheVariants as spec_faults
-use Rattle.eos_evidence.specs.Ends.{end_cmp, are_apart, is_legal_end, insert_end, ordered}
+use Rattle.eos_evidence.specs.Ends.{insert_end, ordered}
 use Rattle.eos_evidence.specs.SpecFields.{SpecFields, are_legal_apps, are_legal_ends, accepted}
 use Rattle.eos_evidence.specs.Evidence.{EvidenceParts, is_in, is_past_limit, has_base, insert_segment, with_segment, empty_partition, without_segments, added_to, added}
 use Rattle.eos_machine.specs.declared.config.Config.{Config}

@@ -1,5 +1,5 @@
 -- Which items stand at which place, whatever happens.
-use Rattle.std.proofs.Common.{◌≡◌, ℕ, ℤ, pos, negsuc, zero, suc, ◌+◌, ◌<◌, ◌==◌, ◌&&◌, not, Bool, true, false, List, [], ◌∷◌, ◌++◌, length, take, replicate, Option, Some, None, refl, sym, ap, subst, ◌∙◌, arith, inl, inr, ◌⊎◌, slice_index_or, slice_set, if◌then◌else◌}
+use Rattle.std.proofs.Common.{◌≡◌, ℕ, ℤ, pos, negsuc, zero, suc, ◌<◌, ◌&&◌, Bool, true, false, List, [], ◌∷◌, ◌++◌, take, replicate, Option, Some, None, refl, sym, ap, subst, arith, inl, inr, ◌⊎◌, slice_index_or, slice_set, if◌then◌else◌}
 use Rattle.std.specs.Prelude.{slice_get, ⊤}
 use Rattle.std.specs.List.{All}
 use Rattle.std.proofs.lemmas.List.Elements.{All-nil, All-push, All-take}
@@ -26,7 +26,7 @@ use Rattle.eos_machine.specs.Sessions.{produce, commit_offset, commit, end_sessi
 use Rattle.eos_machine.specs.Deliveries.{with_partition, accept, ticked_off, deliver, write_marker, complete_prepared}
 use Rattle.eos_machine.specs.Elections.{electable_at, elect}
 use Rattle.eos_machine.proofs.Written.{written_after}
-use Rattle.eos_machine.specs.Machine.{start_session, start, counted, step, world_after, add_partition}
+use Rattle.eos_machine.specs.Machine.{start_session, start, step, world_after, add_partition}
 use Rattle.eos_machine.specs.steps.Machine.{happens}
 
 -- a state stands in the transaction log of its application, data elsewhere

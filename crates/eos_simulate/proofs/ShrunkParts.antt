@@ -1,6 +1,6 @@
 -- Parts of what was done, and what is left of a history that was made smaller.
 use Rattle.std.proofs.Common.{◌≡◌, ◌≤◌, ◌<◌, ◌+◌, ℕ, List, [], ◌∷◌, ◌++◌, Option, None, Some, IfSome, map, length, take, get_or, inl, inr, refl, sym, ap, ap₂, subst, ◌∙◌}
-use Rattle.std.proofs.lemmas.List.{take_all, take_more, map-append, length-map}
+use Rattle.std.proofs.lemmas.List.{take_all, take_more, map-append}
 use Rattle.eos_check.specs.Verdicts.{IsVerdict}
 use Rattle.eos_evidence.specs.Evidence.{EvidenceParts}
 use Rattle.eos_verdict.specs.declared.verdict.Verdict.{Verdict}
@@ -91,9 +91,6 @@ of_said (l ∷ ls) = ap₂ (λ (x : SaidDeed) (xs : List SaidDeed). x ∷ xs) (s
 
 alike : (ds : List Deed) (ls : List Line) → acts_of ds ≡ acts_said ls → unnamed_deeds ds ≡ unnamed_lines ls
 alike ds ls e = sym (of_acts ds) ∙ (ap (map unnamed_deed) e ∙ of_said ls)
-
-pub as_many : (ds : List Deed) (ls : List Line) → acts_of ds ≡ acts_said ls → length ds ≡ length ls
-as_many ds ls e = sym (length-map ds act_of) ∙ (ap length e ∙ length-map ls (λ (l : Line). act_said l.deed))
 
 -- ---- what is left gives the fault
 

@@ -1,7 +1,6 @@
 -- The transaction log of a cluster at rest keeps its rule.
-use Rattle.std.proofs.Common.{◌≡◌, ℕ, zero, suc, ◌+◌, ◌%◌, ◌<◌, ◌≤◌, ℤ, pos, Bool, true, false, List, [], ◌∷◌, Option, Some, None, refl, sym, ap, subst, ◌∙◌, arith, inl, inr, ◌⊎◌}
-use Rattle.std.specs.Prelude.{unsigned_abs, ⊤, Ok, Err}
-use Rattle.std.specs.List.{filter, flat_map}
+use Rattle.std.proofs.Common.{◌≡◌, ℕ, zero, suc, ◌+◌, ◌%◌, ◌<◌, ◌≤◌, ℤ, pos, Bool, true, false, List, [], ◌∷◌, Some, None, refl, sym, ap, subst, ◌∙◌, arith, inl, inr}
+use Rattle.std.specs.Prelude.{unsigned_abs, Ok, Err}
 use Rattle.std.specs.Ordering.{nat_cmp, is_eq}
 use Rattle.std.specs.Cmp.Lexicographic.{slice_cmp}
 use Rattle.std.proofs.Math.Nat.{mod-lt}
@@ -13,20 +12,20 @@ use Rattle.eos_txnlog.specs.declared.value.TxnValue.{TxnValue}
 use Rattle.eos_txnlog.specs.Following.{step_verdict}
 use Rattle.eos_fold.specs.declared.item.Item.{Item as DataRecord}
 use Rattle.eos_fold.specs.Parts.{PartLog}
-use Rattle.eos_table.specs.TransactionLog.{content_with, content_of, Unskipped, nothing, flat, steps_after, state_after, steps_of, all_steps, is_unfinished, last_of, ShareProducer, IsTransactionLog, is_transaction_part, transaction_parts}
+use Rattle.eos_table.specs.TransactionLog.{content_with, content_of, Unskipped, nothing, flat, steps_after, steps_of, all_steps, is_unfinished, last_of, ShareProducer, IsTransactionLog, is_transaction_part, transaction_parts}
 use Rattle.eos_machine.specs.declared.config.Config.{Config}
 use Rattle.eos_machine.specs.LogIndexes.{txn_index, log_count, topic_of, number_of, transactions_topic}
 use Rattle.eos_machine.specs.declared.item.Item.{Item}
 use Rattle.eos_machine.specs.declared.state.Coordinator.{Coordinator}
 use Rattle.eos_machine.specs.declared.item.Item.TheVariants.{Fed, State, Output, Offset, Marker}
-use Rattle.eos_machine.specs.World.{World, fresh, coord_at, log_at}
+use Rattle.eos_machine.specs.World.{World, fresh, log_at}
 use Rattle.eos_machine.specs.Logs.{entries_of, last_state}
 use Rattle.eos_machine.specs.Tests.{is_ongoing, is_prepare}
 use Rattle.eos_machine.specs.Rest.{producer_id, values_of, EachStep}
 use Rattle.eos_machine.specs.Batches.{transactional_id}
 use Rattle.eos_machine.proofs.PlaceNames.{name, topic_at, IsNamed}
 use Rattle.eos_simulate.proofs.Settled.{IsSettled, IsLog, AreAt, in_logs, at_logs}
-use Rattle.eos_simulate.proofs.TxnRecords.{one_app, own_id, is_same_id, records_from, AreStates, are_states, all_read, of_app, own_steps, own_last, own_among, last_among, some_app, IsStepOf, each_step}
+use Rattle.eos_simulate.proofs.TxnRecords.{one_app, is_same_id, records_from, AreStates, are_states, all_read, of_app, own_steps, own_last, own_among, last_among, some_app, IsStepOf, each_step}
 use Rattle.eos_simulate.proofs.TxnRules.{own_follow, last_tracks, track_settled}
 
 -- ---- the partitions of the transaction log

@@ -1,19 +1,14 @@
 -- The records of a partition of the transaction log, and those of one application among them.
-use Rattle.std.proofs.Common.{◌≡◌, ℕ, zero, suc, ◌+◌, ◌<◌, ◌≤◌, ◌==◌, ℤ, pos, negsuc, Bool, true, false, ◌&&◌, ◌||◌, List, [], ◌∷◌, ◌++◌, Option, Some, None, Result, Ok, Err, cond, refl, sym, ap, subst, ◌∙◌, arith, inl, inr, ◌⊎◌}
+use Rattle.std.proofs.Common.{◌≡◌, ℕ, ◌+◌, ◌≤◌, ◌==◌, ℤ, pos, Bool, true, false, List, [], ◌∷◌, ◌++◌, Option, Some, Ok, Err, cond, refl, sym, ap, subst, ◌∙◌, arith, inl, inr, ◌⊎◌}
 use Rattle.std.specs.Prelude.{if◌then◌else◌, slice_index_or, ⊤}
-use Rattle.std.specs.List.{All, filter, flat_map}
-use Rattle.std.specs.Ordering.{nat_cmp, is_eq, int_eq}
-use Rattle.std.specs.Cmp.Lexicographic.{slice_cmp}
-use Rattle.std.proofs.lemmas.Bool.{cases_eq, eq-eqb, ne_eqb, false_from_ne_true, and_parts}
-use Rattle.std.proofs.lemmas.Bool.Decides.{Decides-int_eq}
+use Rattle.std.specs.List.{All, filter}
+use Rattle.std.proofs.lemmas.Bool.{cases_eq, eq-eqb, ne_eqb, false_from_ne_true}
 use Rattle.std.proofs.lemmas.Slice.Eq.{bytes_eq-Decides}
 use Rattle.std.proofs.lemmas.Map.Text.{is_eq-slice_cmp}
 use Rattle.std.proofs.lemmas.List.Elements.{All-head, All-tail}
 use Rattle.eos_base.specs.Members.{Has}
 use Rattle.eos_base.specs.declared.record_fault.RecordFault.{RecordFault}
-use Rattle.eos_base.specs.Fallible.{◌>>=◌, must}
 use Rattle.eos_base.proofs.Membership.{append_cases}
-use Rattle.eos_batch.specs.declared.batch.Batch.{Batch}
 use Rattle.eos_txnlog.specs.declared.value.TxnValue.{TxnValue}
 use Rattle.eos_txnlog.specs.Reading.{read_key, read_value}
 use Rattle.eos_txnlog.specs.Writing as txnlog
@@ -25,7 +20,7 @@ use Rattle.eos_fold.specs.Items.{items_of}
 use Rattle.eos_fold.specs.Settling.{data_in}
 use Rattle.eos_table.specs.TransactionLog.{content_with, content_at, content_of, same_id, Unskipped, State as LastOf, update, flat, next_state, step_at, steps_after, state_after}
 use Rattle.eos_machine.specs.declared.config.Config.{Config}
-use Rattle.eos_machine.specs.LogIndexes.{txn_index, offsets_index}
+use Rattle.eos_machine.specs.LogIndexes.{txn_index}
 use Rattle.eos_machine.specs.declared.item.Entry.{Entry}
 use Rattle.eos_machine.specs.declared.item.Item.{Item}
 use Rattle.eos_machine.specs.declared.item.Item.TheVariants.{Fed, State, Output, Offset, Marker}

@@ -1,7 +1,7 @@
 -- What somebody brings who copied the log directories of a cluster and read the ends of its partitions, and made mistakes: files and ends,
 -- as a function of those that were there. Source: Kafka's documentation, "Log" (a partition's folder is TOPIC-N, a segment's file has the
 -- name of its first offset) and "Record Batch" (its checksum); what goes wrong is what people who copied log directories have told.
-use Rattle.std.specs.Prelude.{◌≡◌, ℕ, ℤ, pos, List, [], ◌∷◌, Bool, true, false, not, ◌&&◌, ◌||◌, ◌==◌, if◌then◌else◌, nat_lt, length, slice_index, flat_map, Option, None, Some, Ok}
+use Rattle.std.specs.Prelude.{◌≡◌, ℕ, pos, List, [], ◌∷◌, Bool, true, false, not, ◌&&◌, ◌||◌, ◌==◌, if◌then◌else◌, nat_lt, length, slice_index, flat_map, Option, None, Some, Ok}
 use Rattle.std.specs.List.{list_any}
 use Rattle.std.specs.Ordering.{int_eq}
 use Rattle.eos_evidence.specs.declared.ends.End.{End}

@@ -9,7 +9,6 @@ use Rattle.eos_verdict.specs.declared.verdict.Verdict.TheVariants.{Yes, No}
 use Rattle.eos_drive.specs.declared.deed.Deed.{Deed}
 use Rattle.eos_machine.specs.declared.config.Config.{Config}
 use Rattle.eos_simulate.specs.declared.exploring.Explored.{Explored}
-use Rattle.eos_simulate.specs.declared.exploring.Accused.{Accused as AccusedRun}
 use Rattle.eos_simulate.specs.declared.exploring.Unexplored.{Unexplored}
 use Rattle.eos_simulate.specs.declared.exploring.Unexplored.TheVariants.{Accused, Unmade}
 use Rattle.eos_simulate.specs.Histories.{IsLeftBy}

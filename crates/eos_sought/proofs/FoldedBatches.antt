@@ -1,5 +1,5 @@
 -- The batches of a segment are those of its fold.
-use Rattle.std.proofs.Common.{◌≡◌, ◌≢◌, ◌⊎◌, ℕ, ℤ, ◌+◌, ◌<◌, ◌≤◌, pos, List, [], ◌∷◌, ◌++◌, length, drop, map, Result, Ok, Err, get_or, Bool, append_assoc, refl, sym, ap, subst, ◌∙◌, inl, inr, arith, drop-drop}
+use Rattle.std.proofs.Common.{◌≡◌, ◌⊎◌, ℕ, ℤ, ◌+◌, ◌<◌, ◌≤◌, pos, List, [], ◌∷◌, ◌++◌, length, drop, map, Result, Ok, Err, get_or, Bool, append_assoc, refl, sym, ap, subst, ◌∙◌, inl, inr, arith, drop-drop}
 use Rattle.std.specs.Prelude.{unsigned_abs}
 use Rattle.std.specs.List.{filter}
 use Rattle.std.proofs.lemmas.List.{length-drop, drop_more}
@@ -21,10 +21,9 @@ use Rattle.eos_fold_file.specs.declared.head.FoldHead.{FoldHead}
 use Rattle.eos_fold_file.specs.Folds.{HasFoldHeads, IsFoldOf}
 use Rattle.eos_fold_file.specs.Heads.{fold_head, batch_head}
 use Rattle.eos_fold_file.proofs.RealHeads.{head_again}
-use Rattle.eos_sought.specs.declared.partition.Placed.{Placed}
 use Rattle.eos_sought.specs.declared.wanted.Standing.{Standing}
 use Rattle.eos_sought.specs.declared.wanted.Wanted.{Wanted}
-use Rattle.eos_sought.specs.Folded.{standings, all_in, wanted_in, AreFoldsOf}
+use Rattle.eos_sought.specs.Folded.{standings, wanted_in, AreFoldsOf}
 use Rattle.eos_sought.specs.steps.Placing.{wanted_of, placed_at}
 use Rattle.eos_sought.specs.Partitions.{ArePlacedIn}
 use Rattle.eos_sought.specs.Wanted.{is_wanted}

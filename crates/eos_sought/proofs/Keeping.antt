@@ -1,5 +1,5 @@
 -- Records that are found one after the other.
-use Rattle.std.proofs.Common.{◌≡◌, ℕ, ◌+◌, ◌<◌, ◌≤◌, suc, zero, List, [], ◌∷◌, ◌++◌, length, take, drop, map, refl, sym, ap, subst, ◌∙◌, arith, Bool, true, false, Some, None, Option, slice_get, get_or, flat_map, append_assoc, if◌then◌else◌}
+use Rattle.std.proofs.Common.{◌≡◌, ℕ, ◌+◌, ◌<◌, ◌≤◌, suc, zero, List, [], ◌∷◌, ◌++◌, length, take, drop, map, refl, sym, ap, subst, ◌∙◌, arith, Some, slice_get, get_or, append_assoc}
 use Rattle.std.specs.List.{filter}
 use Rattle.std.proofs.lemmas.List.{append-nil, map-append, take_more}
 use Rattle.std.proofs.lemmas.Grind.{flat_map-append}
@@ -60,16 +60,7 @@ is_inside (suc i) (y ∷ ys) x left e = omega (arith, is_inside i ys x left e)
 pub found_more : (sought : Sought) (p : PartLog) (xs : List Item) (x : Item) → among sought p (xs ++ x ∷ []) ≡ among sought p xs ++ among sought p (x ∷ [])
 found_more sought p xs x = ap (map (find_in p)) (filter-append (meets sought p) xs (x ∷ [])) ∙ map-append (find_in p) (filter (meets sought p) xs) (filter (meets sought p) (x ∷ []))
 
-pub met : (sought : Sought) (p : PartLog) (x : Item) → meets sought p x ≡ true → among sought p (x ∷ []) ≡ find_in p x ∷ []
-met sought p x is = rw is refl
-
-pub not_met : (sought : Sought) (p : PartLog) (x : Item) → meets sought p x ≡ false → among sought p (x ∷ []) ≡ []
-not_met sought p x is = rw is refl
-
 -- ---- the state of the search
-
-pub kept_none : (sought : Sought) (p : PartLog) (xs : List Find) (finds : Finds) → AreFirst xs finds → AreFirst (xs ++ among sought p (take 0 p.items)) finds
-kept_none sought p xs finds h = subst (λ ys. AreFirst ys finds) (sym (append-nil xs)) h
 
 pub kept_on : (sought : Sought) (p : PartLog) (xs : List Find) (i : ℕ) (x : Item) (left : List Item) (after : Finds) → drop i p.items ≡ x ∷ left
     → AreFirst ((xs ++ among sought p (take i p.items)) ++ among sought p (x ∷ [])) after → AreFirst (xs ++ among sought p (take (i + 1) p.items)) after

@@ -1,5 +1,5 @@
 -- The data records of the logs that are sought, by partition and offset.
-use Rattle.std.specs.Prelude.{◌≡◌, ℕ, List, length, map, filter, take, flat_map}
+use Rattle.std.specs.Prelude.{◌≡◌, List, length, map, filter, take, flat_map}
 use Rattle.eos_fold.specs.Parts.{PartLog, part_name}
 use Rattle.eos_fold.specs.declared.item.Item.{Item}
 use Rattle.eos_sought.specs.declared.finding.Find.{Find}

@@ -16,9 +16,6 @@ times b = cond b 1 0
 
 -- ---- one more
 
-pub none_below : AreBelow 0 []
-none_below x = sym (ap times (le-ltb x 0 (omega arith)))
-
 pub one_below : (n : ℕ) (xs : List ℕ) → AreBelow n xs → AreBelow (n + 1) (xs ++ n ∷ [])
 one_below n xs h x =
     let both = sum_by-append (λ z. times (z == x)) xs (n ∷ []) in

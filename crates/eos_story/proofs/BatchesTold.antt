@@ -1,22 +1,21 @@
 -- Batches and segments of a partition.
-use Rattle.std.proofs.Common.{◌≡◌, ◌≢◌, ℕ, ℤ, ◌+◌, ◌-◌, ◌<◌, ◌≤◌, min, List, [], ◌∷◌, ◌++◌, length, take, drop, get_or, refl, sym, ap, subst, ◌∙◌, inl, inr, Some, None, Option, zero, suc, map, arith, length-drop}
+use Rattle.std.proofs.Common.{◌≡◌, ℕ, ◌+◌, ◌-◌, ◌<◌, min, List, [], ◌∷◌, ◌++◌, length, take, drop, get_or, refl, sym, ap, subst, ◌∙◌, inl, inr, Option, zero, suc, map, arith, length-drop}
 use Rattle.std.specs.List.{All}
 use Rattle.std.proofs.lemmas.List.{map-append, take_min, take_all}
 use Rattle.eos_base.specs.declared.partition_name.PartitionName.{PartitionName}
 use Rattle.eos_base.specs.Members.{Has}
 use Rattle.eos_batch.specs.declared.record.Header.{Header}
-use Rattle.eos_evidence.specs.declared.partition.Partition.{Partition as Log}
 use Rattle.eos_sought.specs.declared.partition.Placed.{Placed}
 use Rattle.eos_sought.specs.declared.wanted.Wanted.{Wanted}
 use Rattle.eos_sought.specs.Partitions.{AreBatchesOf}
 use Rattle.eos_claims.specs.declared.place.Place.{Place}
 use Rattle.eos_story.specs.declared.headers.HeaderName.TheVariants.{Topic, Partition as Number, Offset, Output, Of as OfHeader}
-use Rattle.eos_story.specs.Answers.{StandInOrder, IsBatchRow, IsFirstShown, around, IsHeaderRow, header_names}
+use Rattle.eos_story.specs.Answers.{StandInOrder, IsBatchRow, around, IsHeaderRow, header_names}
 use Rattle.eos_story.specs.declared.batches.Found.{Found}
 use Rattle.eos_story.specs.declared.row.Row.{Row}
 use Rattle.eos_story.specs.declared.row.Row.TheVariants as rows
 use Rattle.eos_story.specs.declared.scene.Scene.{Scene}
-use Rattle.eos_story.specs.Questions.{Question, FirstBatch, Batches, Around}
+use Rattle.eos_story.specs.Questions.{FirstBatch, Batches, Around}
 use Rattle.eos_story.specs.steps.Batches.{AreMoreTold}
 use Rattle.eos_story.specs.steps.Seen.{OfAllSeen, AreTrue}
 use Rattle.eos_story.specs.steps.Telling.{Tells, TellsEach, IsNext}
@@ -98,9 +97,6 @@ first_more {scene} {a} {b} {c} {placed} wanted names i name h k lt is =
     subst (TellsEach scene a c) (sym e) (then h (told_each (ask name ∷ []) (λ has ps seen. ((placed, has), tt)) k))
 
 -- ---- the end of a partition
-
-pub next_as : {scene : Scene} {a b : List Row} (kept row : Row) → (AreTrue scene a → AreTrue scene b) → IsNext a kept b → kept ≡ row → Tells scene a b (IsNext a row)
-next_as {scene} {a} {b} kept row are is e = told_next kept (IsNext a row) are is (subst (λ (r : Row). IsNext a r b) e is)
 
 pub has_as : {scene : Scene} {a b : List Row} (kept row : Row) → (AreTrue scene a → AreTrue scene b) → IsNext a kept b → kept ≡ row → Tells scene a b (λ told. Has told row)
 has_as {scene} {a} {b} kept row are is e = told_next kept (λ told. Has told row) are is (subst (Has b) e (next_has a b kept is))

@@ -3,7 +3,6 @@ use Rattle.std.proofs.Common.{◌≡◌, ℕ, ℤ, ◌+◌, ◌<◌, ◌≤◌, 
 use Rattle.std.proofs.lemmas.List.{take_all}
 use Rattle.eos_base.specs.declared.partition_name.PartitionName.{PartitionName}
 use Rattle.eos_base.specs.Members.{Has}
-use Rattle.eos_fold.specs.Parts.{PartLog}
 use Rattle.eos_sought.specs.declared.partition.Placed.{Placed}
 use Rattle.eos_sought.specs.declared.wanted.Wanted.TheVariants.{Ending}
 use Rattle.eos_sought.specs.declared.finding.Find.{Find}
@@ -16,7 +15,7 @@ use Rattle.eos_story.specs.declared.scene.Scene.{Scene}
 use Rattle.eos_story.specs.Questions.{Claims}
 use Rattle.eos_story.specs.steps.Claims.{IsClaimTold, AreClaimsTold}
 use Rattle.eos_story.specs.steps.Telling.{Tells, TellsEach, IsRecordBehind, IsRestTold}
-use Rattle.eos_story.proofs.RowsGrown.{has_grown, in_order_grown, end_grown, ends_grown, ends_more, in_order_more}
+use Rattle.eos_story.proofs.RowsGrown.{has_grown, ends_grown, ends_more, in_order_more}
 use Rattle.eos_story.proofs.RowsTold.{told_both, told_as, first_shown, one_more, grown_twice}
 
 pub ending_told : {scene : Scene} {a b c : List Row} (name : PartitionName) (producer : ℤ) (offset : ℕ) (marker : Option Placed) → Tells scene a b (λ told. Has told (rows.First name (Ending producer offset) marker)) → Tells scene b c (IsDecided scene.logs.now producer marker)

@@ -17,7 +17,7 @@ use Rattle.eos_story.specs.declared.row.Row.{Row}
 use Rattle.eos_story.specs.declared.row.Row.TheVariants as rows
 use Rattle.eos_story.specs.declared.scene.Scene.{Scene}
 use Rattle.eos_story.specs.Questions.{Ends}
-use Rattle.eos_story.specs.Rows.{IsSegmentOf, AreSegmentsOf, IsEndOf}
+use Rattle.eos_story.specs.Rows.{IsSegmentOf, AreSegmentsOf}
 use Rattle.eos_story.specs.steps.Ends.{begin_of, folds_begun, folds_around, IsFoldRow, AreFoldsAround}
 use Rattle.eos_story.specs.steps.Seen.{OfAllSeen, AreTrue}
 use Rattle.eos_story.specs.steps.Telling.{Tells, TellsEach, IsNext}
@@ -114,13 +114,6 @@ segments_of ps name kept p all by same e = record {
   partition = by.partition;
   named = subst (λ (n : PartitionName). partition_named n ps ≡ Some by.partition) (sym same) by.named;
   number = e ∙ sym (same_number by.partition.segments p.folds.items by.folded.folds);
-}
-
-pub end_of : (ps : List Partition) (name kept : PartitionName) (p : Folded) → IsNamedBy ps name p → kept ≡ name → IsEndOf ps kept p.end.end
-end_of ps name kept p by same = record {
-  partition = by.partition;
-  named = subst (λ (n : PartitionName). partition_named n ps ≡ Some by.partition) (sym same) by.named;
-  is = ap (λ e. e.end) by.folded.end;
 }
 
 -- ---- what they tell

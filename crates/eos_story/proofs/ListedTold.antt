@@ -1,6 +1,6 @@
 -- The partitions that a record lists.
-use Rattle.std.proofs.Common.{◌≡◌, ◌≤◌, ◌<◌, ℕ, zero, suc, ℤ, ◌-◌, List, [], ◌∷◌, length, sym, ap, subst, ◌∙◌, inl, inr, arith, refl, Some, None, Option, slice_get}
-use Rattle.std.proofs.lemmas.Bool.{le-leb, lt-leb}
+use Rattle.std.proofs.Common.{◌≡◌, ◌<◌, ℕ, zero, suc, ℤ, ◌-◌, List, [], ◌∷◌, length, sym, inl, inr, arith, refl, Some, None, Option, slice_get}
+use Rattle.std.proofs.lemmas.Bool.{lt-leb}
 use Rattle.eos_base.specs.Members.{Has}
 use Rattle.eos_fold.specs.Parts.{PartLog}
 use Rattle.eos_sought.specs.declared.finding.Find.{Find}
@@ -14,8 +14,8 @@ use Rattle.eos_story.specs.Listings.{listed_by}
 use Rattle.eos_story.specs.Questions.{Listed, rest_listed, decision, lister, listed_open}
 use Rattle.eos_story.specs.Rows.{AreListed}
 use Rattle.eos_story.specs.steps.Seen.{AreTrue}
-use Rattle.eos_story.specs.steps.Telling.{Tells, TellsEach, IsNext}
-use Rattle.eos_story.proofs.RowsTold.{told_each, told_next, next_has, each_as, nothing}
+use Rattle.eos_story.specs.steps.Telling.{TellsEach, IsNext}
+use Rattle.eos_story.proofs.RowsTold.{told_each, told_next, next_has, each_as}
 
 has_at : {X : Type 0} (xs : List X) (i : ℕ) (x : X) → slice_get xs i ≡ Some x → Has xs x
 has_at [] i x e = cc
@@ -31,11 +31,6 @@ one_listed logs sought i all (Some find) e n lt = record { find = find; has = ha
 pub open_listed : (logs : List PartLog) (producer epoch : ℤ) (found : Option Find) (all : ℕ) → found ≡ decision producer epoch logs → all ≡ length (listed_open logs producer found) → 6 < all → AreListed logs (lister producer epoch found) all
 open_listed logs producer epoch None all e n lt = one_listed logs (OfProducer producer) (length (all_of (OfProducer producer) logs) - 1) all (slice_get (all_of (OfProducer producer) logs) (length (all_of (OfProducer producer) logs) - 1)) refl n lt
 open_listed logs producer epoch (Some find) all e n lt = one_listed logs (Deciding producer epoch) 0 all (Some find) e n lt
-
-pub rest_none : {scene : Scene} {rows : List Row} (sought : Sought) (all : ℕ) → all ≤ 6 → TellsEach scene rows rows (rest_listed sought all)
-rest_none {scene} {rows} sought all le =
-    let none : rest_listed sought all ≡ [] = rw (le-leb all 6 le) refl in
-    each_as (rest_listed sought all) (sym none) (nothing scene rows)
 
 pub rest_more : {scene : Scene} {a b : List Row} (sought : Sought) (all : ℕ) → (AreTrue scene a → AreTrue scene b) → IsNext a (rows.MorePartitions 6 all sought) b → 6 < all → TellsEach scene a b (rest_listed sought all)
 rest_more {scene} {a} {b} sought all are is lt =

@@ -1,5 +1,5 @@
 -- What is told of a batch that may not follow another, and of a transaction that is open.
-use Rattle.std.proofs.Common.{◌≡◌, ◌≢◌, ◌∙◌, true, ℕ, ℤ, ◌-◌, List, [], ◌∷◌, ◌++◌, length, refl, sym, ap, subst, Some, None, Option, slice_get}
+use Rattle.std.proofs.Common.{◌≡◌, ◌≢◌, ◌∙◌, true, ℕ, ℤ, ◌-◌, List, [], ◌∷◌, ◌++◌, length, refl, sym, ap, subst, Some, Option, slice_get}
 use Rattle.eos_base.specs.declared.partition_name.PartitionName.{PartitionName}
 use Rattle.std.proofs.lemmas.Bool.{ne_eqb}
 use Rattle.eos_base.specs.Members.{Has}
@@ -16,7 +16,7 @@ use Rattle.eos_story.specs.Answers.{count_below, AnswersEach}
 use Rattle.eos_story.specs.declared.row.Row.{Row}
 use Rattle.eos_story.specs.declared.row.Row.TheVariants as rows
 use Rattle.eos_story.specs.declared.scene.Scene.{Scene}
-use Rattle.eos_story.specs.Questions.{Around, Records, Latest, listing, markers_of, ending_epoch, ending, between, of_pair, of_open, others_past}
+use Rattle.eos_story.specs.Questions.{Records, Latest, listing, markers_of, ending_epoch, ending, of_pair, of_open, others_past}
 use Rattle.eos_story.specs.steps.Seen.{OfAllSeen}
 use Rattle.eos_story.specs.steps.Telling.{Tells, TellsEach}
 use Rattle.eos_story.specs.Wholeness.{IsPairTold, IsOpenTold, last_end}

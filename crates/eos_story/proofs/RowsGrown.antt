@@ -1,5 +1,5 @@
 -- What rows answer, they answer with more rows behind them.
-use Rattle.std.proofs.Common.{◌≡◌, ◌≢◌, ℕ, ℤ, ◌-◌, List, [], ◌∷◌, ◌++◌, refl, ap, ◌∙◌, append_assoc, inl, inr, Some, None, Option}
+use Rattle.std.proofs.Common.{ℕ, ℤ, ◌-◌, List, [], ◌∷◌, ◌++◌, refl, ap, ◌∙◌, append_assoc, inl, inr, Some, None, Option}
 use Rattle.eos_base.specs.declared.partition_name.PartitionName.{PartitionName}
 use Rattle.eos_base.specs.Members.{Has}
 use Rattle.eos_claims.specs.declared.place.Place.{Place}
@@ -8,13 +8,11 @@ use Rattle.eos_evidence.specs.declared.segment.Segment.{Segment}
 use Rattle.eos_fold.specs.Parts.{PartLog}
 use Rattle.eos_sought.specs.declared.partition.Placed.{Placed}
 use Rattle.eos_sought.specs.declared.wanted.Wanted.{Wanted}
-use Rattle.eos_sought.specs.declared.wanted.Wanted.TheVariants.{Holding, Ending}
+use Rattle.eos_sought.specs.declared.wanted.Wanted.TheVariants.{Holding}
 use Rattle.eos_sought.specs.Partitions.{partition_named}
 use Rattle.eos_sought.specs.declared.finding.Find.{Find}
 use Rattle.eos_sought.specs.declared.sought.Sought.{Sought}
-use Rattle.eos_sought.specs.declared.sought.Sought.TheVariants.{At, Deciding}
-use Rattle.eos_sought.specs.Finds.{all_of}
-use Rattle.eos_story.specs.Answers.{StandInOrder, IsRecordRow, AreShown, AreFirstShown, IsBatchRow, IsFirstShown, AreBatchesShown, AreAroundShown, IsDecided, IsEndingShown, IsEndShown, AreEndsShown, IsHeaderRow, header_names, AreHeadersShown, IsSegmentRow, AreSegmentsAround, AreSegmentsShown, AreEndsOfShown, Answers, AnswersEach}
+use Rattle.eos_story.specs.Answers.{StandInOrder, IsRecordRow, AreShown, IsBatchRow, IsFirstShown, AreBatchesShown, AreAroundShown, IsDecided, IsEndingShown, IsEndShown, AreEndsShown, IsHeaderRow, header_names, AreHeadersShown, IsSegmentRow, AreSegmentsAround, AreSegmentsShown, AreEndsOfShown, Answers, AnswersEach}
 use Rattle.eos_story.specs.declared.row.Row.{Row}
 use Rattle.eos_story.specs.declared.row.Row.TheVariants as rows
 use Rattle.eos_story.specs.Questions.{Question, Records, Latest, Claims, Headers, FirstBatch, Batches, Listed, Around, Ends}

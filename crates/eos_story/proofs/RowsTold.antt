@@ -1,14 +1,11 @@
 -- Rows that are put at the end, one after the other, and what they tell.
-use Rattle.std.proofs.Common.{◌≡◌, ℕ, ℤ, ◌+◌, ◌-◌, ◌<◌, ◌≤◌, List, [], ◌∷◌, ◌++◌, length, take, drop, refl, sym, ap, subst, ◌∙◌, append_assoc, arith, get_or, Some, None, Option}
+use Rattle.std.proofs.Common.{◌≡◌, ℕ, ◌+◌, ◌-◌, ◌<◌, ◌≤◌, List, [], ◌∷◌, ◌++◌, length, take, drop, refl, sym, ap, subst, ◌∙◌, append_assoc, arith, get_or}
 use Rattle.std.proofs.lemmas.List.{append-nil, take_more, take_all}
-use Rattle.eos_base.specs.declared.partition_name.PartitionName.{PartitionName}
 use Rattle.eos_base.specs.Members.{Has}
-use Rattle.eos_fold.specs.Parts.{PartLog}
-use Rattle.eos_sought.specs.declared.partition.Placed.{Placed}
 use Rattle.eos_sought.specs.declared.finding.Find.{Find}
 use Rattle.eos_sought.specs.declared.sought.Sought.{Sought}
 use Rattle.eos_sought.specs.Finds.{all_of}
-use Rattle.eos_story.specs.Answers.{StandInOrder, IsRecordRow, AreShown, AreFirstShown, AnswersEach}
+use Rattle.eos_story.specs.Answers.{StandInOrder, IsRecordRow, AreFirstShown, AnswersEach}
 use Rattle.eos_story.specs.declared.row.Row.{Row}
 use Rattle.eos_story.specs.declared.row.Row.TheVariants as rows
 use Rattle.eos_story.specs.declared.scene.Scene.{Scene}
@@ -80,15 +77,6 @@ order_more {X} {scene} {a} {b} {c} R xs x ys row after h are e is more = record 
 }
 
 -- ---- records
-
-pub record_behind : {scene : Scene} {before after : List Row} (sought : Sought) (find : Find) (row : Row) (shown : Sought) (kept : Find) (spot : Option Placed) → (AreTrue scene before → AreTrue scene after) → IsNext before (rows.Record shown kept spot) after → shown ≡ sought → kept ≡ find
-    → Tells scene before after (IsRecordBehind sought find before)
-record_behind {scene} {before} {after} sought find row shown kept spot are is e h = record {
-  added = rows.Record shown kept spot ∷ [];
-  grown = is;
-  are = are;
-  told = (spot, [], is ∙ ap (λ (r : Row). before ++ r ∷ []) (cc));
-}
 
 -- the rows of the first records that are sought, or of the last, and what is said of the rest
 pub first_shown : {scene : Scene} {a b c : List Row} (sought : Sought) (most count : ℕ) (shown all : List Find) → all ≡ all_of sought scene.logs.now → count ≡ length all → Tells scene a b (StandInOrder (IsRecordRow sought) shown) → Tells scene b c (IsRestTold sought most count)

@@ -1,6 +1,6 @@
 -- The partitions of a transaction that a record of the transaction log lists.
 -- Source: KIP-98, "Transaction Log"; KIP-890 (a transaction's data has the epoch before that of its end markers).
-use Rattle.std.specs.Prelude.{ℕ, ℤ, pos, negsuc, ◌+ℤ◌, ◌-ℤ◌, int_lt, List, [], map, flat_map, Option, Some, None, Bool, ◌&&◌, if◌then◌else◌}
+use Rattle.std.specs.Prelude.{ℤ, pos, negsuc, ◌+ℤ◌, ◌-ℤ◌, int_lt, List, [], map, flat_map, Option, Some, None, Bool, ◌&&◌, if◌then◌else◌}
 use Rattle.std.specs.Ordering.{int_eq}
 use Rattle.eos_base.specs.declared.partition_name.PartitionName.{PartitionName}
 use Rattle.eos_commits.specs.Commits.{is_same}

@@ -1,5 +1,5 @@
 -- A story is whole: its rows answer each question that it is asked.
-use Rattle.std.specs.Prelude.{◌≡◌, ℕ, ◌-◌, ℤ, List, [], ◌∷◌, length, Option, Some, None, slice_get}
+use Rattle.std.specs.Prelude.{ℕ, ◌-◌, ℤ, List, [], ◌∷◌, length, Option, Some, None, slice_get}
 use Rattle.eos_base.specs.declared.partition_name.PartitionName.{PartitionName}
 use Rattle.eos_base.specs.Members.{Has}
 use Rattle.eos_verdict.specs.declared.verdict.Fault.{Fault}
@@ -13,7 +13,7 @@ use Rattle.eos_sought.specs.Partitions.{AreBatchesOf}
 use Rattle.eos_story.specs.declared.row.Row.{Row}
 use Rattle.eos_story.specs.declared.row.Row.TheVariants as rows
 use Rattle.eos_story.specs.Answers.{count_below, AnswersEach}
-use Rattle.eos_story.specs.Questions.{Question, Ends, of_pair, of_open, of_log, of_match, of_lineage}
+use Rattle.eos_story.specs.Questions.{Ends, of_pair, of_open, of_log, of_match, of_lineage}
 use Rattle.eos_touch.specs.declared.fault.PartitionFaultKind.{PartitionFaultKind}
 use Rattle.eos_touch.specs.declared.fault.PartitionFaultKind.TheVariants.{BadBatch, Gap, Pair, End, OpenAtEnd}
 

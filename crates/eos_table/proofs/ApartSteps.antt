@@ -2,9 +2,6 @@
 use Rattle.std.proofs.Common.{◌≡◌, ℕ, ℤ, List, [], ◌∷◌, ◌++◌, Option, Some, None, Bool, true, false, not, ◌||◌, if◌then◌else◌, cond, refl, sym, ap, subst, ◌∙◌, append_assoc, arith}
 use Rattle.std.specs.Prelude.{int_lt}
 use Rattle.std.specs.Option.{option_map}
-use Rattle.std.specs.Map.{lookup}
-use Rattle.std.specs.BTreeMap.{is_at}
-use Rattle.std.specs.Cmp.Lexicographic.{slice_cmp}
 use Rattle.std.specs.Ordering.{nat_cmp, is_eq}
 use Rattle.std.proofs.lemmas.Int.{ints}
 use Rattle.std.proofs.lemmas.List.{append-nil}
@@ -168,16 +165,6 @@ known_apart owners homes before t q o fits of is id partition =
     apart_known owners homes homes before t fits (at_home homes t o.partition there partition) q of o is id
 
 -- ---- all of them
-
-pub none_fits : (owners : Owners) (homes : Homes) → owners.entries ≡ [] → homes.entries ≡ [] → Fits owners homes []
-none_fits owners homes a b = record {
-  homes = λ id. ap (λ (es : List (Id × ℤ)). lookup (is_at (slice_cmp nat_cmp id)) es) b;
-  ids = λ p. sym (ap (λ (es : List (ℕ × Owner)). option_map ids_of (lookup (is_at (nat_cmp p)) es)) a);
-  there = λ p o e. absurd (nothing o (sym (ap (λ (es : List (ℕ × Owner)). lookup (is_at (nat_cmp p)) es) a) ∙ e));
-}
-  where
-    nothing : (o : Owner) → None ≡ Some o → ⊥
-    nothing o e = cc
 
 pub doubled_last : (before xs : List Mark) (t : Mark) → doubled_after before (xs ++ t ∷ []) ≡ doubled_after before xs ++ doubled_at (before ++ xs) t
 doubled_last before [] t = append-nil (doubled_at before t) ∙ ap (λ z. doubled_at z t) (sym (append-nil before))

@@ -23,10 +23,6 @@ pub folded_at : {B X F : Type 0} (step : B → F → B) (g : X → List F) (b no
     → now ≡ fold step b (flat_map g (take i xs)) → next ≡ fold step now (g (get_or xs i d)) → next ≡ fold step b (flat_map g (take (i + 1) xs))
 folded_at step g b now next xs i d lt so_far here = here ∙ (ap (λ z. fold step z (g (get_or xs i d))) so_far ∙ sym (fold_more step g b xs i d lt))
 
-pub folded_more : {B X F : Type 0} (step : B → F → B) (g : X → List F) (b now next : B) (xs : List X) (i : ℕ) (x : X) → i < length xs → x ≡ get_or xs i x
-    → now ≡ fold step b (flat_map g (take i xs)) → next ≡ fold step now (g x) → next ≡ fold step b (flat_map g (take (i + 1) xs))
-folded_more step g b now next xs i x lt is so_far here = folded_at step g b now next xs i x lt so_far (here ∙ ap (λ y. fold step now (g y)) is)
-
 taken_more : {X : Type 0} (xs : List X) (i : ℕ) (x : X) → i < length xs → x ≡ get_or xs i x → take (i + 1) xs ≡ take i xs ++ x ∷ []
 taken_more xs i x lt is = take_more xs i x lt ∙ ap (λ y. take i xs ++ y ∷ []) (sym is)
 

@@ -8,7 +8,7 @@ use Rattle.eos_batch.specs.declared.marker.Marker.{Marker}
 use Rattle.eos_txnlog.specs.declared.decision.Decision.{Decision}
 use Rattle.eos_fold.specs.Parts.{part_name, PartLog}
 use Rattle.eos_txnlog.specs.PartitionSets.{names_of}
-use Rattle.eos_table.specs.steps.Keys.{mine, decided, listed, listed_of, ended, ended_of, marked, marked_of}
+use Rattle.eos_table.specs.steps.Keys.{mine, listed, listed_of, ended, ended_of, marked, marked_of}
 
 abbrev pub pair_of : Decision → ℤ × ℤ
 pair_of d = (d.producer, d.epoch)
@@ -23,12 +23,6 @@ abbrev pub marked_key : PartLog → Marker → ℤ × ℤ × Kind × PartitionNa
 marked_key p m = (m.producer, m.epoch, m.kind, (part_name p))
 
 module _ (n s : ℕ) (ds : List Decision) where
-  pub in_decided : (k : ℤ × ℤ) → Has (decided n s ds) k → (d : Decision) × Has ds d × (pair_of d ≡ k) × (mine n s d.producer ≡ true)
-  in_decided k h =
-      let r = flat_has (λ (d : Decision). if mine n s d.producer then pair_of d ∷ [] else []) ds k h in
-      let i = if_has (mine n s r.0.producer) (pair_of r.0 ∷ []) k r.2 in
-      (r.0, r.1, only (pair_of r.0) k i.1, i.0)
-
   pub in_listed : (k : ℤ × ℤ × PartitionName) → Has (listed n s ds) k → (d : Decision) × Has ds d × (m : PartitionName) × Has (names_of d.partitions) m × (listed_key d m ≡ k)
   in_listed k h =
       let r = flat_has (λ (d : Decision). if mine n s d.producer then listed_of d (names_of d.partitions) else []) ds k h in

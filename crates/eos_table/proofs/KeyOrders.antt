@@ -4,13 +4,11 @@ use Rattle.std.specs.Ordering.{ordering_then, int_cmp, nat_cmp}
 use Rattle.std.specs.declared.cmp.Ordering.{Ordering}
 use Rattle.eos_base.specs.Members.{is_found}
 use Rattle.eos_base.specs.PartitionNames.{name_cmp}
-use Rattle.eos_base.proofs.Membership.{found_by, found_same}
+use Rattle.eos_base.proofs.Membership.{found_by}
 use Rattle.eos_batch.specs.declared.marker.Kind.{Kind}
 use Rattle.eos_batch.specs.declared.marker.Kind.TheVariants.{Commit, Abort}
 use Rattle.eos_batch.specs.contracts.marker.KindOrd.TheImpl.{ghosts as kind_ghosts}
-use Rattle.eos_fold.specs.declared.close.Close.{Close}
-use Rattle.eos_fold.specs.contracts.close.CloseOrd.TheImpl.{ghosts as close_ghosts}
-use Rattle.eos_fold.specs.Closes.{rank_of, close_cmp}
+use Rattle.eos_fold.specs.Closes.{rank_of}
 use Rattle.eos_table.specs.contracts.key.EndedOrd.TheImpl.{ghosts as ended_ghosts}
 use Rattle.eos_table.specs.contracts.key.ListedOrd.TheImpl.{ghosts as listed_ghosts}
 use Rattle.eos_table.specs.contracts.key.NameRefOrd.TheImpl.{ghosts as name_ghosts}
@@ -25,14 +23,8 @@ kind_alike Commit Abort = refl
 kind_alike Abort Commit = refl
 kind_alike Abort Abort = refl
 
-pub close_alike : (a b : Close) → close_ghosts.cmp a b ≡ close_cmp a b
-close_alike a b = ap (λ (o : Ordering). ordering_then (int_cmp a.producer b.producer) (ordering_then (int_cmp a.epoch b.epoch) (ordering_then (int_cmp a.marker_epoch b.marker_epoch) o))) (kind_alike a.kind b.kind)
-
 pub ended_alike : (a b : Ended) → ended_ghosts.cmp a b ≡ ended_cmp (plain_ended a) (plain_ended b)
 ended_alike a b = ap (λ (o : Ordering). ordering_then (int_cmp a.producer b.producer) (ordering_then (int_cmp a.epoch b.epoch) (ordering_then o (name_cmp (plain_name a.name) (plain_name b.name))))) (kind_alike a.kind b.kind)
-
-pub judged_has : (xs : List Close) (k : Close) → is_found close_ghosts.cmp xs k ≡ is_found close_cmp xs k
-judged_has xs k = found_same close_cmp close_ghosts.cmp close_alike xs k
 
 pub listed_has : (xs : List Listed) (k : Listed) → is_found listed_ghosts.cmp xs k ≡ is_found listed_cmp (map plain_listed xs) (plain_listed k)
 listed_has xs k = found_by plain_listed listed_cmp listed_ghosts.cmp (λ a b. refl) xs k

@@ -1,8 +1,6 @@
 -- What is gathered of the transaction log is what stands there; so the least of it is the least that stands.
-use Rattle.std.proofs.Common.{◌≡◌, ℕ, ℤ, List, [], ◌∷◌, ◌++◌, map, fold, Option, Some, Ok, Err, refl, sym, subst, ap, ◌∙◌, inl, inr, ◌⊎◌, true, false, Bool, if◌then◌else◌, cond, unsigned_abs}
+use Rattle.std.proofs.Common.{◌≡◌, ℕ, ℤ, List, [], ◌∷◌, map, fold, Option, Some, Ok, Err, refl, sym, subst, ap, ◌∙◌, inl, inr, ◌⊎◌, true, false, Bool, if◌then◌else◌, cond, unsigned_abs}
 use Rattle.std.specs.List.{flat_map}
-use Rattle.std.proofs.lemmas.List.{append-nil}
-use Rattle.std.proofs.lemmas.List.Sums.{fold-append}
 use Rattle.eos_base.specs.declared.record_fault.RecordFault.{RecordFault}
 use Rattle.eos_base.specs.Members.{Has}
 use Rattle.eos_base.specs.Least.{IsLeastOrNone}
@@ -20,10 +18,8 @@ use Rattle.eos_verdict.specs.declared.log_fault.LogFaultKind.{LogFaultKind}
 use Rattle.eos_verdict.specs.declared.log_fault.LogFaultKind.TheVariants.{BadRecord, Step, SplitId, SharedProducer, Unfinished}
 use Rattle.eos_table.specs.TransactionLog.{Id, same_id, State, nothing, flat, update, Unskipped, content_of, step_at, next_state, steps_after, state_after, steps_of, all_steps, last_of, is_unfinished, AreInOrder}
 use Rattle.eos_table.specs.LogFaults.{StandsAs, Stands, log_cmp}
-use Rattle.eos_table.specs.steps.LogCandidates.{LogRead, after, unread, none_found, fault_at, bad_at, refused_at, step_faults, faults_at, faults_after, mark_of, open_at, part_faults, Faults, taken}
-use Rattle.eos_table.specs.declared.held.Holding.TheVariants.{Each, Apart}
+use Rattle.eos_table.specs.steps.LogCandidates.{after, none_found, fault_at, bad_at, refused_at, step_faults, faults_at, faults_after, mark_of, open_at, part_faults, Faults, taken}
 use Rattle.eos_table.specs.steps.Doubled.{doubled_after, gathered}
-use Rattle.eos_table.specs.steps.Held.{Readout, Shows}
 use Rattle.eos_table.proofs.KeptFaults.{least_kept, all_kept}
 use Rattle.eos_table.proofs.LogOrder.{log_total, log_exact}
 use Rattle.eos_table.proofs.LogTables.{same}
@@ -232,21 +228,3 @@ judged_least log are last best is e = least_by_candidates log_total log_exact (S
     (e ∙ (ap (λ (z : Faults). z.least) is ∙ least_kept log_cmp (gathered log)))
 
 -- ---- the one pass after the other
-
-abbrev alone : List PartLog → List LogFault
-alone log = flat_map part_faults log
-
-abbrev all_read : Faults → List PartLog → LogRead
-all_read first log = after (unread first) (all_steps log) (alone log)
-
-pub judged_each : (log : List PartLog) (first last : Faults) (q : Readout) → Shows Each q (all_read first log)
-    → last ≡ fold taken q.faults (doubled_after [] q.held.marks.items) → last ≡ fold taken first (gathered log)
-judged_each log first last q shows e =
-    let t = shows.tells (shows.each refl) in
-    e ∙ (ap (λ (z : Faults). fold taken z (doubled_after [] q.held.marks.items)) t.0 ∙ (ap (λ ms. fold taken (fold taken first (alone log)) (doubled_after [] ms)) t.1
-    ∙ sym (fold-append taken first (alone log) (doubled_after [] (map mark_of (all_steps log))))))
-
-pub judged_apart : (log : List PartLog) (first : Faults) (q : Readout) → Shows Apart q (all_read first log) → q.held.holding ≡ Apart → q.faults ≡ fold taken first (gathered log)
-judged_apart log first q shows is =
-    let t = shows.tells is in
-    t.0 ∙ ap (fold taken first) (sym (ap (λ (fs : List LogFault). alone log ++ fs) t.2 ∙ append-nil (alone log)))

@@ -91,12 +91,6 @@ before_asym s t (inl a) (inr b) = let e = b.0 in absurd (omega (arith, ints, a, 
 before_asym s t (inr a) (inl b) = let e = a.0 in absurd (omega (arith, ints, b, e))
 before_asym s t (inr a) (inr b) = let e = a.1 in let f = b.1 in absurd (omega (arith, e, f))
 
-pub before_trans : (s t u : Unskipped) → IsBefore s t → IsBefore t u → IsBefore s u
-before_trans s t u (inl a) (inl b) = inl (omega (arith, ints, a, b))
-before_trans s t u (inl a) (inr b) = let e = b.0 in inl (omega (arith, ints, a, e))
-before_trans s t u (inr a) (inl b) = let e = a.0 in inl (omega (arith, ints, b, e))
-before_trans s t u (inr a) (inr b) = let e = a.1 in let f = b.1 in inr (a.0 ∙ b.0, omega (arith, e, f))
-
 -- of two, the one before the other stands earlier
 pub stands_earlier : (front back : List Unskipped) (t s : Unskipped) → Ordered IsBefore (front ++ t ∷ back) → Has (front ++ t ∷ back) s → IsBefore s t → Has front s
 stands_earlier front back t s up h b = elim (append_cases front (t ∷ back) s h) [

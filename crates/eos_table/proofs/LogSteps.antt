@@ -24,7 +24,7 @@ use Rattle.eos_table.specs.TransactionLog.{Id, State, same_id, nothing, flat, Un
 use Rattle.eos_table.specs.declared.held.Held.{Held}
 use Rattle.eos_table.specs.declared.held.Holding.{Holding}
 use Rattle.eos_table.specs.declared.held.Holding.TheVariants.{Each, Apart, Nothing}
-use Rattle.eos_table.specs.steps.LogCandidates.{LogRead, Faults, taken, open_at, after, unread, step_of, step_faults, faults_at, faults_after, part_faults, mark_of}
+use Rattle.eos_table.specs.steps.LogCandidates.{LogRead, Faults, taken, open_at, after, unread, step_faults, faults_at, faults_after, part_faults, mark_of}
 use Rattle.eos_table.specs.steps.Doubled.{doubled_at, doubled_after}
 use Rattle.eos_table.specs.steps.Apart.{Fits}
 use Rattle.eos_table.specs.steps.Held.{Readout, Tells, Shows, Takes}
@@ -63,14 +63,6 @@ module _ (old new : Readout) (held : new.held ≡ old.held) where
   )
   still Nothing r next faults marks t = tt
 
--- a fault that a record shows by itself
-pub takes_fault : (old new : Readout) (f : LogFault) → new.held ≡ old.held → new.decisions ≡ old.decisions → new.faults ≡ taken old.faults f → Takes old new [] (f ∷ [])
-takes_fault old new f held decisions faults asked r shows = record {
-  decisions = decisions ∙ (shows.decisions ∙ sym (append-nil r.decisions));
-  tells = λ h. still old new held asked r (after r [] (f ∷ [])) (λ e. faults ∙ ap (λ z. taken z f) e) (append-nil r.marks) (shows.tells (sym (ap (λ (z : Held). z.holding) held) ∙ h));
-  each = λ is. ap (λ (z : Held). z.holding) held ∙ shows.each is;
-}
-
 abbrev pub KeepsEach : Held → Held → Mark → Type 0
 KeepsEach old new m = old.holding ≡ Each → (new.holding ≡ Each) × (new.marks.items ≡ old.marks.items ++ m ∷ [])
 
@@ -100,23 +92,6 @@ module _ (old new : Readout) (s : Unskipped) (faults : new.faults ≡ fold taken
     tells = told asked r shows;
     each = λ is. (each (shows.each is)).0;
   }
-
-abbrev TakesIf : Readout → Readout → Unskipped → Bool → Type 0
-TakesIf old new this skips = Takes old new (if skips then [] else this ∷ []) (flat_map step_faults (if skips then [] else this ∷ []))
-
--- a record of an id that isn't skipped
-pub unskipped_step : (last : State) (n : ℤ) (o : ℕ) (id : Id) (b v : Option TxnValue) (old new : Readout) → is_skipped (last id) v ≡ false → b ≡ flat (last id)
-    → Takes old new (step_of n o id b v ∷ []) (step_faults (step_of n o id b v))
-    → Takes old new (step_at last n o (Of id v)) (faults_at last n o (Of id v))
-unskipped_step last n o id b v old new skip same takes =
-    let this : Unskipped = step_of n o id (flat (last id)) v in
-    subst (TakesIf old new this) (sym skip) (subst (Takes old new (this ∷ [])) (sym (append-nil (step_faults this)))
-    (subst (λ z. Takes old new (step_of n o id z v ∷ []) (step_faults (step_of n o id z v))) same takes))
-
--- one that is
-pub skipped_step : (last : State) (n : ℤ) (o : ℕ) (id : Id) (v : Option TxnValue) (q : Readout) → is_skipped (last id) v ≡ true
-    → Takes q q (step_at last n o (Of id v)) (faults_at last n o (Of id v))
-skipped_step last n o id v q skip = subst (TakesIf q q (step_of n o id (flat (last id)) v)) (sym skip) (takes_nothing q)
 
 -- what is known after a record of an id that is taken, and after one that isn't
 pub taken_state : (last : State) (id : Id) (v : Option TxnValue) (b : Option (Option TxnValue)) (x : Option TxnValue) (t : Bool) (new : State)

@@ -8,7 +8,7 @@ use Rattle.eos_batch.specs.declared.marker.Kind.TheVariants.{Commit, Abort}
 use Rattle.eos_batch.specs.declared.marker.Marker.{Marker}
 use Rattle.eos_txnlog.specs.declared.decision.Decision.{Decision}
 use Rattle.eos_fold.specs.declared.close.Close.{Close}
-use Rattle.eos_table.specs.Atomic.{IsOf, EndsAs, Ends}
+use Rattle.eos_table.specs.Atomic.{EndsAs, Ends}
 
 pub kind_decided : (k l : Kind) → Decided (k ≡ l)
 kind_decided Commit Commit = inl refl
@@ -22,10 +22,6 @@ name_is a b p q = λ i. record { topic = p i; partition = q i }
 pub name_decided : (a b : PartitionName) → Decided (a ≡ b)
 name_decided a b = from_both (λ (h : (a.topic ≡ b.topic) × (a.partition ≡ b.partition)). name_is a b h.0 h.1) (λ (e : a ≡ b). (ap (λ n. n.topic) e, ap (λ n. n.partition) e))
     (both (bytes_decided a.topic b.topic) (int_decided a.partition b.partition))
-
-pub of_decided : (d : Decision) (c : Close) → Decided (IsOf d c)
-of_decided d c = from_both (λ (h : (d.producer ≡ c.producer) × (d.epoch ≡ c.epoch)). record { producer = h.0; epoch = h.1 }) (λ (h : IsOf d c). (h.producer, h.epoch))
-    (both (int_decided d.producer c.producer) (int_decided d.epoch c.epoch))
 
 pub ends_as_decided : (d : Decision) (c : Close) → Decided (EndsAs d c)
 ends_as_decided d c = from_both (λ (h : (d.marker_epoch ≡ c.marker_epoch) × (d.kind ≡ c.kind)). record { epoch = h.0; kind = h.1 }) (λ (h : EndsAs d c). (h.epoch, h.kind))

@@ -3,7 +3,7 @@ use Rattle.std.proofs.Common.{◌≡◌, ◌≢◌, ◌<◌, ◌+◌, ℕ, zero,
 use Rattle.std.specs.Prelude.{slice_get, slice_set}
 use Rattle.std.proofs.lemmas.Bool.{cases_lt}
 use Rattle.std.proofs.lemmas.Option.{slice_get_within, get_or_from_slice_get}
-use Rattle.std.proofs.lemmas.List.{append-nil, append_assoc, map-append, take_more}
+use Rattle.std.proofs.lemmas.List.{append_assoc, map-append, take_more}
 use Rattle.eos_base.specs.declared.partition_name.PartitionName.{PartitionName}
 use Rattle.eos_base.specs.Members.{Has}
 use Rattle.eos_base.proofs.Membership.{append_cases, append_left, append_right, only}
@@ -112,9 +112,6 @@ module _ (ps : List PartLog) (old new : Lists) (place : ℕ) (c : Close) (name :
   }
 
 -- ---- one after the other
-
-pub none_taken : (ps : List PartLog) (lists : Lists) → Take ps [] lists lists
-none_taken ps lists = λ before have. subst (λ (ws : List (Close × PartitionName)). Have ps ws lists) (sym (append-nil before)) have
 
 pub both_taken : (ps : List PartLog) (ws more : List (Close × PartitionName)) (old mid new : Lists) → Take ps ws old mid → Take ps more mid new → Take ps (ws ++ more) old new
 both_taken ps ws more old mid new f g = λ before have. subst (λ (xs : List (Close × PartitionName)). Have ps xs new) (append_assoc before ws more) (g (before ++ ws) (f before have))

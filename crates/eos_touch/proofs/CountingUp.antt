@@ -104,12 +104,6 @@ eq_or_lt a b h = elim (cases_int a b) [ inl e ↦ inl e | inr n ↦ inr (omega (
     cases_int : (a b : ℤ) → (a ≡ b) ⊎ (a ≢ b)
     cases_int a b = elim (int_eq a b) as (λ t. int_eq a b ≡ t → (a ≡ b) ⊎ (a ≢ b)) [ true ↦ λ e. inl ((Decides-int_eq a b).0 e) | false ↦ λ e. inr (not_equal a b e) ] refl
 
-start_same : (f : ℤ) (t : Bool) (s : ℤ) (c : ℕ) → start (Some (Data f t s c)) f ≡ unsigned_abs s + c
-start_same f t s c = rw ((Decides-int_eq f f).1 refl) refl
-
-start_other : (f : ℤ) (t : Bool) (s : ℤ) (c : ℕ) (e : ℤ) → f ≢ e → start (Some (Data f t s c)) e ≡ 0
-start_other f t s c e n = rw (is_not_equal f e n) refl
-
 sequence_is : (r : ℤ) (d : ℕ) → pos 0 ≤ℤ r → sequence_at r d ≡ pos ((unsigned_abs r + d) % 2 ^ 31)
 sequence_is (pos b) d h = refl
 sequence_is (negsuc b) d h = absurd (omega (arith, ints))

@@ -19,10 +19,6 @@ row_ok : (b : Bool) (f : PairFault) (r : PairResult) → row b f r ≡ Ok tt →
 row_ok true f r e = absurd cc
 row_ok false f r e = (refl, e)
 
-if_then : (a b : Bool) → (a && b) ≡ false → a ≡ true → b ≡ false
-if_then true b h e = h
-if_then false b h e = absurd cc
-
 then_if : (a b : Bool) → (a ≡ true → b ≡ false) → (a && b) ≡ false
 then_if true b h = h refl
 then_if false b h = refl

@@ -1,6 +1,6 @@
 -- What is written is a text of the value.
-use Rattle.std.proofs.Common.{◌≡◌, ℕ, suc, ◌+◌, ◌^◌, Bool, true, false, List, [], ◌∷◌, length, flat_map, Some, Result, Ok, Err, refl, sym, append_assoc, arith, ℤ, inl}
-use Rattle.std.specs.Prelude.{◌&&◌, All, FitsSigned, IfOk}
+use Rattle.std.proofs.Common.{◌≡◌, ℕ, suc, ◌+◌, ◌^◌, Bool, true, false, List, [], ◌∷◌, length, flat_map, Some, refl, sym, append_assoc, arith, ℤ, inl}
+use Rattle.std.specs.Prelude.{◌&&◌, All, FitsSigned}
 use Rattle.std.specs.Int.{w32}
 use Rattle.std.specs.List.{list_all}
 use Rattle.std.proofs.lemmas.Bool.{ltb-true}
@@ -8,7 +8,6 @@ use Rattle.std.proofs.lemmas.List.{append-nil}
 use Rattle.eos_wire.specs.Numbers.{i32_text}
 use Rattle.eos_wire.specs.Writing.{uvarint_of}
 use Rattle.eos_wire.proofs.Spellings.{uvarint_shortest}
-use Rattle.eos_base.specs.declared.record_fault.RecordFault.{RecordFault}
 use Rattle.eos_wire.specs.declared.form.Form.{Form}
 use Rattle.eos_wire.specs.declared.form.Form.TheVariants.{Plain, Flexible}
 use Rattle.eos_txnlog.specs.declared.partitions.TopicPartitions.{TopicPartitions}
@@ -16,10 +15,8 @@ use Rattle.eos_txnlog.specs.declared.value.TxnValue.{TxnValue}
 use Rattle.eos_wire.specs.Texts.{IsLengthText, IsCountText, IsStringText, AreTexts, IsListText, IsSectionText}
 use Rattle.eos_txnlog.specs.Text.{form_of, IsNumberText, IsKeyText, IsTopicText, IsPartitionsText, IsBodyText, IsValueText}
 use Rattle.eos_txnlog.specs.steps.Text.{FitNumbers, IsInRange}
-use Rattle.eos_txnlog.specs.Reading.{read_value, read_key}
 use Rattle.eos_wire.specs.FieldWriting.{fits_length, fits_count, length_text, count_text, section_text, string_text}
 use Rattle.eos_txnlog.specs.Writing.{numbers_text, fits_topic, topic_text, fits_partitions, partitions_text, body_text, value_text, key_text}
-use Rattle.eos_txnlog.proofs.ValueTexts.{value_whole, key_whole}
 
 both : (a b : Bool) → (a && b) ≡ true → (a ≡ true) × (b ≡ true)
 both true b e = (refl, e)
@@ -101,15 +98,7 @@ value_written version form value known fits range = record {
   parts = refl;
 }
 
-pub value_reads_back : (value : TxnValue) (result : Result (List ℕ) RecordFault) → IfOk result (λ bytes. IsValueText bytes value) → IfOk result (λ bytes. read_value bytes ≡ Ok value)
-value_reads_back value (Ok bytes) h = value_whole bytes value h
-value_reads_back value (Err f) h = tt
-
 -- ---- keys
 
 pub key_written : (id : List ℕ) → fits_length Plain (length id) ≡ true → IsKeyText (key_text id) id
 key_written id fits = record { id_part = string_text Plain id; id_text = string_written Plain id fits; parts = refl }
-
-pub key_reads_back : (id : List ℕ) (result : Result (List ℕ) RecordFault) → IfOk result (λ bytes. IsKeyText bytes id) → IfOk result (λ bytes. read_key bytes ≡ Ok (Some id))
-key_reads_back id (Ok bytes) h = key_whole bytes id h
-key_reads_back id (Err f) h = tt

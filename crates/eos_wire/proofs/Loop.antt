@@ -67,10 +67,6 @@ is_done {X} make read front count i bytes total le so_far =
     let same : with_front make front (many_from read (count - i) bytes) ≡ Ok (make front, bytes) = rw left (ap (λ (xs : List X). Ok (make xs, bytes)) (append-nil front)) in
     sym so_far ∙ same
 
-pub starts : {X : Type 0} (front : List X) (read : Result (List X × List ℕ) RecordFault) → front ≡ [] → with_front (λ xs. xs) front read ≡ read
-starts {X} front (Ok x) none = ap (λ (xs : List X). Ok (xs ++ x.0, x.1)) none
-starts front (Err e) none = refl
-
 -- ---- the same where nothing is kept
 
 rest_is : (x y : Unit {0} × List ℕ) → done x ≡ done y → x.1 ≡ y.1

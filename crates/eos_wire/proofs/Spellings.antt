@@ -8,9 +8,9 @@ use Rattle.std.proofs.lemmas.Nat.{mul-le}
 use Rattle.std.specs.Prelude.{FitsSigned}
 use Rattle.std.specs.Int.{w32, w64}
 use Rattle.eos_wire.specs.Numbers.{IsBytes}
-use Rattle.eos_wire.specs.Varint.{IsGroups, IsVarint, IsVarlong, IsUvarint, unzigzag, varint_at, varlong_at, uvarint_at}
+use Rattle.eos_wire.specs.Varint.{IsGroups, IsVarint, IsVarlong, IsUvarint, unzigzag, varlong_at}
 use Rattle.eos_wire.specs.Writing.{IsShortest, zigzag, groups_of, varint_of, varlong_of, uvarint_of}
-use Rattle.eos_wire.proofs.VarintTexts.{varint_whole, varlong_whole, uvarint_whole}
+use Rattle.eos_wire.proofs.VarintTexts.{varlong_whole}
 
 pub more : (k n : ℕ) → 128 ≤ n → groups_of (suc k) n ≡ (n % 128 + 128) ∷ groups_of k (n / 128)
 unfolding groups_of
@@ -178,16 +178,7 @@ IsVarlong-some text z h = IsGroups-some text h.0 h.1
 pub IsUvarint-bytes : (text : List ℕ) (n : ℕ) → IsUvarint text n → IsBytes text
 IsUvarint-bytes text n h = IsGroups-bytes text n h.0
 
-pub IsUvarint-some : (text : List ℕ) (n : ℕ) → IsUvarint text n → 1 ≤ length text
-IsUvarint-some text n h = IsGroups-some text n h.0
-
 -- ---- what is written reads back, whatever follows
-
-pub varint_written : (z : ℤ) (rest : List ℕ) → FitsSigned w32 z → varint_at (varint_of z ++ rest) ≡ Some (z, length (varint_of z))
-varint_written z rest fits = let s = varint_shortest z fits in varint_whole (varint_of z) z rest s.0
 
 pub varlong_written : (z : ℤ) (rest : List ℕ) → FitsSigned w64 z → varlong_at (varlong_of z ++ rest) ≡ Some (z, length (varlong_of z))
 varlong_written z rest fits = let s = varlong_shortest z fits in varlong_whole (varlong_of z) z rest s.0
-
-pub uvarint_written : (n : ℕ) (rest : List ℕ) → n < 2 ^ 32 → uvarint_at (uvarint_of n ++ rest) ≡ Some (n, length (uvarint_of n))
-uvarint_written n rest lt = let s = uvarint_shortest n lt in uvarint_whole (uvarint_of n) n rest s.0

@@ -1,4 +1,4 @@
-use Rattle.std.proofs.Common.{◌≡◌, ◌+◌, ◌<◌, sym, length, arith, rules}
+use Rattle.std.proofs.Common.{◌≡◌, ◌+◌, sym, length, arith, rules}
 use Rattle.eos_fold_file.specs.Texts.{most_shared}
 use Rattle.eos_fold_file.proofs.Shared.{joined_next}
 use Rattle.eos_fold_file.proofs.texts.is_most.Goals as goal

@@ -1,4 +1,4 @@
-use Rattle.std.proofs.Common.{arith, w64, to_z, of_z, sym, ap, ◌∙◌}
+use Rattle.std.proofs.Common.{arith, w64, to_z, of_z, ap, ◌∙◌}
 use Rattle.std.specs.Prelude.{List}
 use Rattle.eos_fold.specs.declared.item.Item.{Item}
 use Rattle.eos_notes.specs.steps.Counted.{count_visible, count_below}

@@ -1,6 +1,6 @@
 use Rattle.std.proofs.Common.{◌≡◌, ◌≤◌, ◌∙◌, false, ap, subst, sym, string_bytes, Some}
 use Rattle.serde_json.specs.Data.{depth}
-use Rattle.serde_json.specs.Read.{max_depth, read}
+use Rattle.serde_json.specs.Read.{max_depth}
 use Rattle.serde_json.specs.Written.{has_float, IsInOrder, compact_text}
 use Rattle.serde_json.proofs.Texts.{tokens_from_order}
 use Rattle.eos_report.specs.DatedValues.{dated_value}

@@ -1,4 +1,3 @@
-use Rattle.std.proofs.Common.{◌≡◌}
 use Rattle.eos_verdict.specs.declared.verdict.Verdict.TheVariants.{No}
 use Rattle.eos_report.proofs.Floats.{text_of}
 use Rattle.eos_report.proofs.line.text_of_no.Goals as goal

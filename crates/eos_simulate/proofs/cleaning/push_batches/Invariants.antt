@@ -1,5 +1,5 @@
 -- The batches so far stand behind those before, and what is left of the file has the others.
-use Rattle.std.proofs.Common.{◌≡◌, ◌≤◌, ◌-◌, ◌++◌, drop, length}
+use Rattle.std.proofs.Common.{◌≤◌, ◌-◌, ◌++◌, drop, length}
 use Rattle.eos_simulate.specs.Cleaning.{logged_in}
 use Rattle.eos_simulate.proofs.CleanedLogs.{GoesOnBy}
 use Rattle.eos_simulate.proofs.cleaning.push_batches.Given as goal

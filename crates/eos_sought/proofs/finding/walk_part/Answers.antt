@@ -1,4 +1,4 @@
-use Rattle.std.proofs.Common.{sym, ◌∙◌, arith}
+use Rattle.std.proofs.Common.{sym, ◌∙◌}
 use Rattle.eos_sought.proofs.Keeping.{at_front, left_behind, kept_on, kept_whole}
 use Rattle.eos_sought.proofs.finding.walk_part.Goals as goal
 

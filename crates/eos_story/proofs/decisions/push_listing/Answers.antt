@@ -1,6 +1,6 @@
 use Rattle.std.proofs.lemmas.Int.{to_z-of_z}
 use Rattle.std.proofs.Common.{rules, w16, FitsSigned}
-use Rattle.std.proofs.Common.{◌≡◌, length, ap, refl, ◌∙◌}
+use Rattle.std.proofs.Common.{length, ap, refl, ◌∙◌}
 use Rattle.eos_sought.specs.declared.wanted.Wanted.TheVariants.{Marking, Data}
 use Rattle.eos_story.specs.Listings.{listed_by, epoch_before}
 use Rattle.eos_story.specs.Questions.{decision, in_each}

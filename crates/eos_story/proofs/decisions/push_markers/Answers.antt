@@ -1,5 +1,5 @@
 use Rattle.std.proofs.lemmas.Int.{to_z-of_z}
-use Rattle.std.proofs.Common.{◌≡◌, length, ap, refl, subst, sym, ◌∙◌}
+use Rattle.std.proofs.Common.{length, ap, refl, subst, sym, ◌∙◌}
 use Rattle.eos_sought.specs.declared.wanted.Wanted.TheVariants.{Marking}
 use Rattle.eos_sought.specs.declared.sought.Sought.{Sought}
 use Rattle.eos_story.specs.Questions.{decision, in_each, lister, listed_open}

@@ -1,4 +1,4 @@
-use Rattle.std.proofs.Common.{List, ℕ, Option, [], ◌∷◌, ap, ◌∙◌}
+use Rattle.std.proofs.Common.{List, ℕ, Option, [], ◌∷◌, ap}
 use Rattle.eos_claims.specs.declared.place.Place.{Place}
 use Rattle.eos_sought.specs.declared.sought.Sought.TheVariants.{At, Claiming}
 use Rattle.eos_story.specs.Questions.{Records, Claims, commits_past, group_meant, unseen}

@@ -1,4 +1,4 @@
-use Rattle.std.proofs.Common.{◌≡◌, List, ◌∙◌, drop, length, ◌-◌, subst, sym}
+use Rattle.std.proofs.Common.{List, ◌∙◌, subst, sym}
 use Rattle.std.specs.List.{All}
 use Rattle.eos_base.specs.Members.{Has}
 use Rattle.eos_sought.specs.declared.finding.Find.{Find}
