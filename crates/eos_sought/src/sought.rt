@@ -79,9 +79,9 @@ fn claims(place: &Place, claim: Option<ClaimRef<'_>>) -> bool
     match claim {
         None => false,
         Some(claim) => {
-            is_same(claim.topic, place.partition.topic.as_slice())
+            claim.offset == place.offset
                 && claim.partition == place.partition.partition
-                && claim.offset == place.offset
+                && is_same(claim.topic, place.partition.topic.as_slice())
         }
     }
 }
