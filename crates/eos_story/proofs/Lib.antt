@@ -7,5 +7,6 @@ pub mod PairsTold
 pub mod EndsTold
 pub mod ListedTold
 pub mod BothHold
+pub mod ListsLeft
 pub mod QuestionsAbout
 pub mod Carried

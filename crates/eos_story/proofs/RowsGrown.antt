@@ -14,7 +14,6 @@ use Rattle.eos_sought.specs.declared.finding.Find.{Find}
 use Rattle.eos_sought.specs.declared.sought.Sought.{Sought}
 use Rattle.eos_story.specs.Answers.{StandInOrder, IsRecordRow, AreShown, IsBatchRow, IsFirstShown, AreBatchesShown, AreAroundShown, IsDecided, IsEndingShown, IsEndShown, AreEndsShown, IsHeaderRow, header_names, AreHeadersShown, IsSegmentRow, AreSegmentsAround, AreSegmentsShown, AreEndsOfShown, Answers, AnswersEach}
 use Rattle.eos_story.specs.declared.row.Row.{Row}
-use Rattle.eos_story.specs.declared.row.Row.TheVariants as rows
 use Rattle.eos_story.specs.Questions.{Question, Records, Latest, Claims, Headers, FirstBatch, Batches, Listed, Around, Ends}
 
 pub has_grown : {X : Type 0} (xs added : List X) (x : X) → Has xs x → Has (xs ++ added) x

@@ -11,7 +11,7 @@ ghost use Rattle.eos_story.specs.steps.Telling.{TellsEach};
 
 use crate::copies::{copy_name, copy_place};
 use crate::decisions::{decided_names, epoch_after, listed_by, push_each};
-use crate::records::{count_of, first_found, push_records};
+use crate::records::{count_of, first_found, push_counted};
 use crate::row::Row;
 use crate::scene::Scene;
 use eos_base::PartitionName;
@@ -164,15 +164,15 @@ fn push_owed_at(
 fn push_any(
     scene: &Scene<'_>,
     rows: &mut Vec<Row>,
-    sought: Sought,
+    sought: &Sought,
     most: u64,
 ) -> Result<(), AllocError>
-    ensures { OnOk result (TellsEach scene.now rows.old.items rows.new.items (any_of scene.now.logs.now sought most)) }
+    ensures { OnOk result (TellsEach scene.now rows.old.items rows.new.items (any_of scene.now.logs.now sought.now most)) }
 {
-    if count_of(scene, &sought)? == 0 {
+    if count_of(scene, sought)? == 0 {
         return Ok(());
     }
-    push_records(scene, rows, sought, most)?;
+    push_counted(scene, rows, sought, most)?;
     Ok(())
 }
 
@@ -189,7 +189,9 @@ fn push_alike(
         place: named,
         output,
     };
-    push_any(scene, rows, alike, 2)?;
+    let told = push_any(scene, rows, &alike, 2);
+    drop(alike);
+    told?;
     Ok(())
 }
 

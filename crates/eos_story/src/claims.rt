@@ -32,7 +32,10 @@ fn push_decision(
         return Ok(());
     };
     let epoch = marker.standing.head.epoch;
-    push_shown(scene, rows, &Sought::Deciding { producer, epoch }, 1)?;
+    let decided = Sought::Deciding { producer, epoch };
+    let count = push_shown(scene, rows, &decided, 1);
+    drop(decided);
+    count?;
     Ok(())
 }
 
@@ -125,7 +128,10 @@ pub(crate) fn push_unseen(
     if count_hidden(scene, &place)? == 0 {
         return Ok(());
     }
-    push_claims(scene, rows, &Sought::Hidden(place), 2)?;
+    let hidden = Sought::Hidden(place);
+    let told = push_claims(scene, rows, &hidden, 2);
+    drop(hidden);
+    told?;
     Ok(())
 }
 
@@ -133,5 +139,8 @@ fn count_hidden(scene: &Scene<'_>, place: &Place) -> Result<u64, AllocError>
     ensures { IfOk result (λ count. count ≡ length (all_of (Hidden place.now) scene.now.logs.now)) }
 {
     let place = copy_place(place)?;
-    count_of(scene, &Sought::Hidden(place))
+    let sought = Sought::Hidden(place);
+    let count = count_of(scene, &sought);
+    drop(sought);
+    count
 }

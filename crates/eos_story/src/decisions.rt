@@ -117,6 +117,7 @@ fn push_rest(
     ensures { OnOk result (TellsEach scene.now rows.old.items rows.new.items (rest_listed sought all)) }
 {
     if all <= MOST {
+        drop(sought);
         return Ok(());
     }
     add_row(
@@ -142,9 +143,16 @@ fn push_listed(
     requires { 6 < length names.now → AreListed scene.now.logs.now sought (length names.now) }
     ensures { OnOk result (TellsEach scene.now rows.old.items rows.new.items (in_each sought wanted names.now)) }
 {
-    push_each(scene, rows, names, wanted)?;
-    push_rest(scene, rows, sought, names.len())?;
-    Ok(())
+    match push_each(scene, rows, names, wanted) {
+        Ok(()) => {
+            push_rest(scene, rows, sought, names.len())?;
+            Ok(())
+        }
+        Err(fault) => {
+            drop(sought);
+            Err(fault)
+        }
+    }
 }
 
 /// The decision whose markers have this producer id and epoch, if there is one.
@@ -206,7 +214,9 @@ fn last_listed(scene: &Scene<'_>, producer: i64) -> Result<Vec<PartitionName>, A
     ensures { IfOk result (λ names. names.items ≡ listed_open scene.now.logs.now producer Rattle.std.specs.Prelude.None) }
 {
     let states = Sought::OfProducer(producer);
-    listed_last(scene, &states)
+    let names = listed_last(scene, &states);
+    drop(states);
+    names
 }
 
 /// The partitions that the decision lists, or else those that the last state of the producer id lists.

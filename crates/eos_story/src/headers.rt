@@ -138,5 +138,7 @@ pub(crate) fn push_headers(
     ensures { OnOk result (TellsEach scene.now rows.old.items rows.new.items (HeadersOf place.now ∷ [])) }
 {
     let sought = Sought::At(copy_place(place)?);
-    push_found(scene, rows, place, &sought)
+    let told = push_found(scene, rows, place, &sought);
+    drop(sought);
+    told
 }

@@ -165,15 +165,13 @@ fn push_passing(
 {
     let by = copy_bytes(group)?;
     let past = copy_place(place)?;
-    push_past(
-        scene,
-        rows,
-        &Sought::Passing {
-            group: by,
-            place: past,
-        },
-        place,
-    )?;
+    let passing = Sought::Passing {
+        group: by,
+        place: past,
+    };
+    let told = push_past(scene, rows, &passing, place);
+    drop(passing);
+    told?;
     let named = copy_bytes(group)?;
     let end = copy_place(place)?;
     push_last_of(
@@ -200,7 +198,10 @@ fn output_rows(
     let at = copy_place(input)?;
     push_records(scene, rows, Sought::At(at), 1)?;
     let claimed = copy_place(input)?;
-    push_claims(scene, rows, &Sought::Claiming(claimed), 3)?;
+    let claiming = Sought::Claiming(claimed);
+    let told = push_claims(scene, rows, &claiming, 3);
+    drop(claiming);
+    told?;
     push_beside(scene, rows, fault)?;
     let meant = group_bytes(scene, group)?;
     push_commits(scene, rows, meant, input)?;

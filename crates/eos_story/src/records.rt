@@ -1,4 +1,7 @@
 //! Rows of data records.
+//!
+//! What is sought has many variants, and the proof goes through all of them at each way out at which it is owned. So it is dropped by a
+//! call before these.
 
 ghost use Rattle.std.specs.Prelude.{◌≡◌, ◌∷◌, [], IfOk, OnOk, All, length, slice_get};
 ghost use Rattle.eos_base.specs.Members.{Has};
@@ -37,8 +40,9 @@ pub(crate) fn count_of(scene: &Scene<'_>, sought: &Sought) -> Result<u64, AllocE
 pub(crate) fn first_found(scene: &Scene<'_>, sought: Sought) -> Result<Vec<Find>, AllocError>
     ensures { IfOk result (λ found. slice_get found.items 0 ≡ slice_get (all_of sought scene.now.logs.now) 0) }
 {
-    let finds = find_records(scene.alloc, scene.logs, &sought, 1)?;
-    Ok(finds.first)
+    let finds = find_records(scene.alloc, scene.logs, &sought, 1);
+    drop(sought);
+    Ok(finds?.first)
 }
 
 /// Adds a data record that is sought.
@@ -56,8 +60,8 @@ pub(crate) fn push_find(
     };
     let found = batches_of(scene.alloc, scene.partitions, &find.partition, wanted)?;
     let spot = first_of(found.as_slice());
-    let sought = copy_sought(sought)?;
     let find = copy_find(find)?;
+    let sought = copy_sought(sought)?;
     add_row(scene, rows, Row::Record { sought, find, spot })?;
     Ok(())
 }
@@ -140,7 +144,9 @@ pub(crate) fn push_records(
 ) -> Result<(), AllocError>
     ensures { OnOk result (TellsEach scene.now rows.old.items rows.new.items (Records sought most ∷ [])) }
 {
-    push_counted(scene, rows, &sought, most)?;
+    let count = push_counted(scene, rows, &sought, most);
+    drop(sought);
+    count?;
     Ok(())
 }
 
@@ -173,5 +179,7 @@ pub(crate) fn push_last_of(
 ) -> Result<(), AllocError>
     ensures { OnOk result (TellsEach scene.now rows.old.items rows.new.items (LatestOf sought most ∷ [])) }
 {
-    push_latest(scene, rows, &sought, most)
+    let told = push_latest(scene, rows, &sought, most);
+    drop(sought);
+    told
 }

@@ -113,7 +113,10 @@ fn last_state(scene: &Scene<'_>, id: &Bytes) -> Result<Option<TxnValue>, AllocEr
     ensures { IfOk result (λ state. state ≡ state_said (last_of (OfId id.now) scene.now.logs.now)) }
 {
     let id = copy_bytes(id)?;
-    last_sought(scene, &Sought::OfId(id))
+    let states = Sought::OfId(id);
+    let last = last_sought(scene, &states);
+    drop(states);
+    last
 }
 
 /// Beside those before the place, which is in another partition, the first of all.

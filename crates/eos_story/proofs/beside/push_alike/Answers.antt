@@ -8,4 +8,4 @@ use Rattle.eos_story.proofs.beside.push_alike.Goals as goal
 pub returns : goal.returns
 returns c =
     let logs = c.args.scene.now.logs.now in
-    each_as (any_of logs (Alike c.args.place.now c.args.output) 2) (ap (λ (p : Place). any_of logs (Alike p c.args.output) 2) c.in_ok-named.ensures) c.in_ok-push_any.ensures
+    each_as (any_of logs (Alike c.args.place.now c.args.output) 2) (ap (λ (p : Place). any_of logs (Alike p c.args.output) 2) c.in_ok-named.ensures) c.in_ok-told.ensures

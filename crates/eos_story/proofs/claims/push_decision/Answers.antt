@@ -6,5 +6,5 @@ pub returns : goal.returns
 returns c =
     let p = c.ranges.producer in
     let q : FitsSigned w16 c.in-Some.marker.standing.head.epoch = search rules in
-    let shown = simp to_z-of_z at c.in_ok-push_shown.ensures.told in
+    let shown = simp to_z-of_z at c.in_ok-count.ensures.told in
     rw c.in-Some.is shown

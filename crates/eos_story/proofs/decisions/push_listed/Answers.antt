@@ -1,5 +1,5 @@
 use Rattle.eos_story.proofs.RowsTold.{then}
 use Rattle.eos_story.proofs.decisions.push_listed.Goals as goal
 
-pub returns : goal.returns
-returns c = then c.in_ok-push_each.ensures c.in_ok-push_rest.ensures
+pub returns-in_ok-push_rest-in-Ok : goal.returns-in_ok-push_rest-in-Ok
+returns-in_ok-push_rest-in-Ok c = then c.in-Ok.ensures c.in_ok-push_rest-in-Ok.ensures

@@ -12,5 +12,5 @@ returns c =
     let group = c.args.group.now in
     let place = c.args.place.now in
     let past = ap (λ (g : List ℕ). Passing g c.in_ok-past.past) c.in_ok-by.ensures ∙ ap (λ (p : Place). Passing group p) c.in_ok-past.ensures in
-    then (each_as (Records (Passing group place) 3 ∷ others_past logs (Passing group place) place) (ap (λ (s : Sought). Records s 3 ∷ others_past logs s place) past) c.in_ok-push_past.ensures)
+    then (each_as (Records (Passing group place) 3 ∷ others_past logs (Passing group place) place) (ap (λ (s : Sought). Records s 3 ∷ others_past logs s place) past) c.in_ok-told.ensures)
     (each_as (Latest (UpTo group place) 1 ∷ []) (ap (λ (g : List ℕ). Latest (UpTo g c.in_ok-end.end) 1 ∷ []) c.in_ok-named.ensures ∙ ap (λ (p : Place). Latest (UpTo group p) 1 ∷ []) c.in_ok-end.ensures) c.in_ok-push_last_of.ensures)
