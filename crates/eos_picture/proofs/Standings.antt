@@ -1,5 +1,5 @@
 -- Where transactions stand in a partition, one further.
-use Rattle.std.proofs.Common.{◌≡◌, ◌≢◌, ◌<◌, ◌≤◌, ◌⊎◌, ◌+◌, ◌-◌, ◌&&◌, length, zero, suc, arith, refl, ℕ, ℤ, Bool, true, false, List, [], ◌∷◌, ◌++◌, drop, get_or, map, Option, Some, None, Result, Ok, Err, inl, inr, sym, ap, subst, ◌∙◌, append_assoc}
+use Rattle.std.proofs.Common.{◌≡◌, ◌≢◌, ◌<◌, ◌≤◌, ◌⊎◌, ◌+◌, ◌-◌, ◌&&◌, length, zero, suc, arith, refl, ℕ, ℤ, Bool, true, false, List, [], ◌∷◌, ◌++◌, drop, get_or, map, take, Option, Some, None, Result, Ok, Err, inl, inr, sym, ap, subst, ◌∙◌, append_assoc}
 use Rattle.std.specs.List.{slice_get, range_with_len, flat_map, Contains}
 use Rattle.std.specs.Option.{option_or}
 use Rattle.std.specs.Prelude.{IfOk}
@@ -11,7 +11,7 @@ use Rattle.std.specs.declared.cmp.Ordering.TheVariants.{Less, Equal, Greater}
 use Rattle.std.proofs.Math.Seq.{drop-cons}
 use Rattle.std.proofs.lemmas.Option.{slice_get-get_or, slice_get_past, slice_get_within, get_or_from_slice_get}
 use Rattle.std.proofs.lemmas.Cmp.{int_cmp_total, nat_list_cmp_total}
-use Rattle.std.proofs.lemmas.List.{append-nil}
+use Rattle.std.proofs.lemmas.List.{append-nil, take_more}
 use Rattle.std.proofs.lemmas.List.Sorted.{Contains-permutation}
 use Rattle.eos_base.proofs.Exact.{bytes_exact, int_exact, is_tied}
 use Rattle.eos_base.specs.declared.partition_name.PartitionName.{PartitionName}
@@ -142,6 +142,14 @@ flat_next f xs i d old now all lt is before =
     let rest = flat_map f (drop (i + 1) xs) in
     let split : flat_map f (drop i xs) ≡ f (get_or xs i d) ++ rest = ap (flat_map f) (drop-cons xs i d lt) ∙ ap (λ n. f (get_or xs i d) ++ flat_map f (drop n xs)) one in
     ap (λ z. z ++ rest) is ∙ (append_assoc old (f (get_or xs i d)) rest ∙ (ap (λ z. old ++ z) (sym split) ∙ before))
+
+map_last : {X Y : Type 0} (f : X → Y) (xs : List X) (x : X) → map f (xs ++ x ∷ []) ≡ map f xs ++ f x ∷ []
+map_last f [] x = refl
+map_last f (y ∷ ys) x = ap (λ z. f y ∷ z) (map_last f ys x)
+
+-- what is made of the first ones, and of the next
+pub map_next : {X Y : Type 0} (f : X → Y) (xs : List X) (i : ℕ) (d : X) → i < length xs → map f (take (i + 1) xs) ≡ map f (take i xs) ++ f (get_or xs i d) ∷ []
+map_next f xs i d lt = ap (map f) (take_more xs i d lt) ∙ map_last f (take i xs) (get_or xs i d)
 
 pub range_next : (i n : ℕ) (old now all : List ℕ) → i < n → now ≡ old ++ i ∷ [] → old ++ range_with_len i (n - i) ≡ all → now ++ range_with_len (i + 1) (n - (i + 1)) ≡ all
 range_next i n old now all lt is before =

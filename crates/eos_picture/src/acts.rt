@@ -112,7 +112,6 @@ fn push_found(
 }
 
 /// Those that are the next ones behind its data, if nothing decided the transaction.
-#[tactic(auto, using(crate::proofs::TrueMarks::found_true))]
 fn push_closes(
     marks: &mut Vec<Mark>,
     scene: Scene<'_>,
@@ -132,7 +131,6 @@ fn push_closes(
 }
 
 /// All of it, of the transaction at this place.
-#[tactic(auto, using(crate::proofs::TrueMarks::found_true))]
 fn push_of(marks: &mut Vec<Mark>, scene: Scene<'_>, part: &Part, i: usize) -> Result<(), AllocError>
     requires { i < length scene.columns.now }
     ensures so { AreTrue part.now scene.entry.columns.now marks.old.items → OnOk result (AreTrue part.now scene.entry.columns.now marks.new.items) }
