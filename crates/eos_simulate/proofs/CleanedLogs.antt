@@ -1,10 +1,11 @@
 -- The batches of a file, one by one.
-use Rattle.std.proofs.Common.{◌≡◌, ℕ, zero, suc, ◌+◌, ◌-◌, ℤ, List, [], ◌∷◌, ◌++◌, take, drop, drop-drop, slice_range, Ok, Err, arith, refl, sym, ap, ◌∙◌, append_assoc, append-nil}
+use Rattle.std.proofs.Common.{◌≡◌, ℕ, zero, suc, ◌+◌, ◌-◌, ℤ, List, [], ◌∷◌, ◌++◌, ◌<◌, length, get_or, take, drop, drop-drop, slice_range, Ok, Err, arith, refl, sym, ap, ◌∙◌, append_assoc, append-nil}
+use Rattle.std.proofs.lemmas.List.{drop_more, length-drop, take_all}
 use Rattle.eos_batch.specs.declared.batch.Batch.{Batch}
 use Rattle.eos_batch.specs.declared.fault.BatchFault.{BatchFault}
 use Rattle.eos_batch.specs.Reading.{batch_at}
 use Rattle.eos_simulate.specs.declared.cleaning.Logged.{Logged}
-use Rattle.eos_simulate.specs.Cleaning.{logged_from, logged_in}
+use Rattle.eos_simulate.specs.Cleaning.{logged_from, logged_in, left_here, left_in}
 
 abbrev pub logged : ℤ → Batch → List ℕ → Logged
 logged base b text = record { base = base; batch = b; text = text }
@@ -32,3 +33,15 @@ one_logged base n m at size bytes text b log next all more e t p h =
 
 pub all_logged : (base : ℤ) (n : ℕ) (rest : List ℕ) (fault : BatchFault) (log all : List Logged) → batch_at rest ≡ Err fault → GoesOnBy base n rest log all → log ≡ all
 all_logged base n rest fault log all e h = sym (append-nil log) ∙ (sym (ap (λ (xs : List Logged). log ++ xs) (none_stands base n rest fault e)) ∙ h)
+
+-- what is left of one batch more
+pub left_more : (base : ℤ) (log : List Logged) (i : ℕ) (l : Logged) (out new text : List ℕ) → i < length log → l ≡ get_or log i l → text ≡ left_here base l (take (length log - (i + 1)) (drop (i + 1) log))
+    → new ≡ out ++ text → out ++ left_in base (drop i log) ≡ left_in base log → new ++ left_in base (drop (i + 1) log) ≡ left_in base log
+left_more base log i l out new text lt is told more h =
+    let rest = left_in base (drop (i + 1) log) in
+    let whole : drop i log ≡ l ∷ drop (i + 1) log = drop_more log i l lt ∙ ap (λ (x : Logged). x ∷ drop (i + 1) log) (sym is) in
+    let count = length-drop (i + 1) log in
+    let later : take (length log - (i + 1)) (drop (i + 1) log) ≡ drop (i + 1) log = take_all (length log - (i + 1)) (drop (i + 1) log) (omega (arith, count)) in
+    let own : text ≡ left_here base l (drop (i + 1) log) = told ∙ ap (λ (x : List Logged). left_here base l x) later in
+    ap (λ (x : List ℕ). x ++ rest) (more ∙ ap (λ (x : List ℕ). out ++ x) own)
+    ∙ (append_assoc out (left_here base l (drop (i + 1) log)) rest ∙ (ap (λ (x : List Logged). out ++ left_in base x) (sym whole) ∙ h))

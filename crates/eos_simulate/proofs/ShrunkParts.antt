@@ -10,7 +10,8 @@ use Rattle.eos_drive.specs.declared.deed.Deed.{Deed}
 use Rattle.eos_history_lines.specs.declared.line.Deed.{Deed as SaidDeed}
 use Rattle.eos_history_lines.specs.declared.line.Deed.TheVariants as said
 use Rattle.eos_history_lines.specs.declared.line.Line.{Line}
-use Rattle.eos_simulate.specs.Histories.{IsLeftBy, act_of, act_said, acts_of, acts_said}
+use Rattle.eos_simulate.specs.Every.{IsJudged}
+use Rattle.eos_simulate.specs.Histories.{act_of, act_said, acts_of, acts_said}
 use Rattle.eos_simulate.specs.Parts.{IsPartOf, unnamed_deed, unnamed_deeds, unnamed_lines}
 use Rattle.eos_simulate.specs.Shrinking.{GivesFault, IsShrunk}
 use Rattle.eos_simulate.specs.steps.AddedLines.{AddsLine}
@@ -99,12 +100,12 @@ gives_fault code e (Yes counts) is fault = absurd fault
 gives_fault code e (No f) is fault = record { fault = f; verdict = is; coded = fault }
 
 -- of lines that are a part
-pub shrunk_by : (c : Config) (code : List ℕ) (whole : List SaidDeed) (before deeds : List Deed) (ls : List Line) (e : EvidenceParts) (v : Verdict) → before ≡ []
-    → (before ≡ [] → IsLeftBy c deeds e) → (before ≡ [] → acts_of deeds ≡ acts_said ls) → IsVerdict e v → IsFaultOf code v → IsPartOf (unnamed_lines ls) whole → IsShrunk c code whole deeds
-shrunk_by c code whole before deeds ls e v none left done is fault part = record {
-  evidence = e;
-  left = left none;
-  gives = gives_fault code e v is fault;
+pub shrunk_by : (c : Config) (code : List ℕ) (whole : List SaidDeed) (before deeds : List Deed) (ls : List Line) (v : Verdict) → (before ≡ [] → IsJudged c deeds v) → (before ≡ [] → acts_of deeds ≡ acts_said ls)
+    → IsFaultOf code v → before ≡ [] → IsPartOf (unnamed_lines ls) whole → IsShrunk c code whole deeds
+shrunk_by c code whole before deeds ls v judged done fault none part = record {
+  evidence = (judged none).evidence;
+  left = (judged none).left;
+  gives = gives_fault code (judged none).evidence v (judged none).judged fault;
   part = subst (λ (x : List SaidDeed). IsPartOf x whole) (sym (alike deeds ls (done none))) part;
 }
 
@@ -116,9 +117,3 @@ shrunk_on c code whole deeds smaller h k = record {
   gives = k.gives;
   part = part_trans (unnamed_deeds smaller) (unnamed_deeds deeds) whole k.part h.part;
 }
-
--- of all lines
-pub shrunk_whole : (c : Config) (code : List ℕ) (before deeds : List Deed) (ls : List Line) (e : EvidenceParts) (v : Verdict) → before ≡ []
-    → (before ≡ [] → IsLeftBy c deeds e) → (before ≡ [] → acts_of deeds ≡ acts_said ls) → IsVerdict e v → IsFaultOf code v → IsShrunk c code (unnamed_lines ls) deeds
-shrunk_whole c code before deeds ls e v none left done is fault =
-    shrunk_by c code (unnamed_lines ls) before deeds ls e v none left done is fault (part_all (unnamed_lines ls))

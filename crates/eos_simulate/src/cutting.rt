@@ -77,16 +77,31 @@ impl Sides {
         ensures { IfOk result (λ left. IfSome left (λ d. unnamed_deed d ≡ unnamed_deed (act_of deed.now))) }
     {
         let left = self.left(deed, is_cut)?;
+        match self.follow(deed, &left) {
+            Ok(()) => Ok(left),
+            Err(fault) => {
+                drop(left);
+                Err(fault)
+            }
+        }
+    }
+
+    /// Does in the whole what was done, and in the part what is left of it, and names what is new.
+    fn follow(
+        &mut self,
+        deed: &eos_drive::Deed,
+        left: &Option<Deed>,
+    ) -> Result<(), SimulationFault> {
         let (sessions, messages) = (self.part.sessions, self.part.messages);
         let offset = self.whole.follow(deed)?;
-        let now = match &left {
+        let now = match left {
             Some(deed) => self.part.do_said(deed)?,
             None => None,
         };
         self.name_sessions(sessions)?;
         self.name_messages(messages)?;
         self.name_input(deed, offset, now)?;
-        Ok(left)
+        Ok(())
     }
 
     /// What is left of a line.

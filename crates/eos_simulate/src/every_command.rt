@@ -3,7 +3,7 @@
 use crate::exploring::{Accused, Explored, Unexplored, explore};
 use crate::folder::end_unmade;
 use crate::history_file::history_text;
-use eos_check::Verdict;
+use eos_check::{Fault, Verdict};
 use eos_ending::{Ending, STANDARD, Subject, end};
 use eos_text::{push_text, push_value};
 use eos_verdict::verdict_line;
@@ -41,13 +41,20 @@ fn tell_accused(rt: &HostRuntime, accused: Accused) -> Result<u8, AllocError> {
         fault,
     } = accused;
     let words = head.words;
+    let line = fault_line(rt.alloc(), fault)?;
     let text = history_text(rt.alloc(), &head, &history)?;
-    let line = verdict_line(rt.alloc(), &Verdict::No(fault))?;
     let _ = eprint!(rt; "eoscheck: by a schedule of length {words}: {line}");
     match print!(rt; "{text}") {
         Ok(()) => Ok(1),
         Err(_) => Ok(end(rt, Ending::CannotWrite(STANDARD))),
     }
+}
+
+fn fault_line(alloc: Global, fault: Fault) -> Result<String, AllocError> {
+    let verdict = Verdict::No(fault);
+    let line = verdict_line(alloc, &verdict);
+    drop(verdict);
+    line
 }
 
 /// The line that tells that none is accused.

@@ -33,20 +33,24 @@ fn simulate_one(rt: &HostRuntime, words: &Simulation<'_>) -> u8 {
     ) {
         Ok(status) => status,
         Err(Unsimulated::CannotPrint) => end(rt, Ending::CannotWrite(STANDARD)),
-        Err(Unsimulated::Unleft(why)) => end_unleft(rt, words, why),
+        Err(Unsimulated::Unleft(why)) => {
+            let status = end_unleft(rt, words, &why);
+            drop(why);
+            status
+        }
     }
 }
 
 /// Says why nothing is left, and gives the exit status.
-pub(crate) fn end_unleft(rt: &HostRuntime, words: &Simulation<'_>, why: Unleft) -> u8 {
+pub(crate) fn end_unleft(rt: &HostRuntime, words: &Simulation<'_>, why: &Unleft) -> u8 {
     let schedule = words.schedule.unwrap_or(STANDARD);
     match why {
-        Unleft::History(fault) => end_unchanged(rt, words.history.unwrap_or(STANDARD), fault),
-        Unleft::Labels(fault) => end_unchanged(rt, words.labels.unwrap_or(STANDARD), fault),
-        Unleft::Unread(fault) => end_unread(rt, Subject::Only, &fault),
-        Unleft::Refused(fault) => end_refused(rt, schedule, fault),
-        Unleft::Unreplayed(fault, lines) => end_unreplayed(rt, schedule, lines, fault),
-        Unleft::Unmade(fault) => end_unmade(rt, Subject::Only, fault),
+        Unleft::History(fault) => end_unchanged(rt, words.history.unwrap_or(STANDARD), *fault),
+        Unleft::Labels(fault) => end_unchanged(rt, words.labels.unwrap_or(STANDARD), *fault),
+        Unleft::Unread(fault) => end_unread(rt, Subject::Only, fault),
+        Unleft::Refused(fault) => end_refused(rt, schedule, *fault),
+        Unleft::Unreplayed(fault, lines) => end_unreplayed(rt, schedule, *lines, fault),
+        Unleft::Unmade(fault) => end_unmade(rt, Subject::Only, *fault),
         Unleft::ThereAlready => end_unchanged(rt, words.folder, ChangeFault::ThereAlready),
         Unleft::Unwritten(fault) => end_unwritten(rt, fault),
     }
@@ -62,7 +66,7 @@ pub(crate) fn end_refused(rt: &HostRuntime, path: &str, fault: ScheduleFault) ->
 }
 
 /// Says why a schedule, which has so many lines of what is done, leaves no evidence.
-pub(crate) fn end_unreplayed(rt: &HostRuntime, path: &str, lines: u64, fault: ReplayFault) -> u8 {
+pub(crate) fn end_unreplayed(rt: &HostRuntime, path: &str, lines: u64, fault: &ReplayFault) -> u8 {
     match fault {
         ReplayFault::NotAtRest => end(rt, Ending::NotAtRest),
         ReplayFault::Limit => end(rt, Ending::Limit(&Cause::Unknown)),
@@ -74,7 +78,7 @@ pub(crate) fn end_unreplayed(rt: &HostRuntime, path: &str, lines: u64, fault: Re
             );
             2
         }
-        ReplayFault::Otherwise(line) => match tell_otherwise(rt, path, &line) {
+        ReplayFault::Otherwise(line) => match tell_otherwise(rt, path, line) {
             Ok(()) => 1,
             Err(_) => end(rt, Ending::OutOfMemory),
         },
@@ -100,7 +104,7 @@ pub(crate) fn end_unmade(rt: &HostRuntime, subject: Subject<'_>, fault: Simulati
 }
 
 /// Says why a folder wasn't written.
-fn end_unwritten(rt: &HostRuntime, fault: WritingFault) -> u8 {
+fn end_unwritten(rt: &HostRuntime, fault: &WritingFault) -> u8 {
     match fault {
         WritingFault::CannotWrite(path) => end(rt, Ending::CannotWrite(path.as_str())),
         WritingFault::OutOfMemory => end(rt, Ending::OutOfMemory),

@@ -157,14 +157,23 @@ fn leave_next(rt: &HostRuntime, words: &Simulation<'_>) -> Result<u8, AllocError
     ) {
         Ok(_) => tell_next(rt, words),
         Err(Unsimulated::CannotPrint) => Ok(end(rt, Ending::CannotWrite(STANDARD))),
-        Err(Unsimulated::Unleft(Unleft::Unmade(SimulationFault::OutOfMemory))) => {
-            Ok(end(rt, Ending::OutOfMemory))
+        Err(Unsimulated::Unleft(why)) => {
+            let status = pass_over(rt, words, &why);
+            drop(why);
+            Ok(status)
         }
-        Err(Unsimulated::Unleft(Unleft::Unmade(fault))) => {
-            let _ = end_unmade(rt, Subject::Folder(words.folder), fault);
-            Ok(0)
+    }
+}
+
+/// Says why a seed leaves no evidence, and gives the exit status: 0 where it may be passed over.
+fn pass_over(rt: &HostRuntime, words: &Simulation<'_>, why: &Unleft) -> u8 {
+    match why {
+        Unleft::Unmade(SimulationFault::OutOfMemory) => end(rt, Ending::OutOfMemory),
+        Unleft::Unmade(fault) => {
+            let _ = end_unmade(rt, Subject::Folder(words.folder), *fault);
+            0
         }
-        Err(Unsimulated::Unleft(why)) => Ok(end_unleft(rt, words, why)),
+        _ => end_unleft(rt, words, why),
     }
 }
 

@@ -2,7 +2,7 @@
 
 ghost use Rattle.std.specs.Prelude.{◌≡◌, ◌++◌, IfOk, OnOk, string_bytes};
 ghost use Rattle.eos_simulate.specs.Histories.{FitsTotals};
-ghost use Rattle.eos_simulate.specs.HistoryTexts.{IsHistoryText, deed_said, lines_bytes};
+ghost use Rattle.eos_simulate.specs.HistoryTexts.{IsHistoryText, deed_said, line_bytes, lines_bytes};
 
 use bytes::Bytes;
 use eos_drive::History;
@@ -29,13 +29,23 @@ fn push_lines(alloc: Global, text: &mut String, deeds: &[eos_drive::Deed]) -> Re
     ensures { OnOk result (string_bytes text.new ≡ string_bytes text.old ++ lines_bytes 1 deeds.now) }
 {
     for place in 0..deeds.len() {
-        let line = Line {
-            number: place as u64 + 1,
-            deed: said(&deeds[place])?,
-        };
-        text.push_str(line_text(alloc, &line)?.as_str())?;
+        let line = line_of(alloc, place as u64 + 1, &deeds[place])?;
+        text.push_str(line.as_str())?;
     }
     Ok(())
+}
+
+/// The line of this number, of what was done.
+fn line_of(alloc: Global, number: u64, deed: &eos_drive::Deed) -> Result<String, AllocError>
+    ensures { IfOk result (λ text. string_bytes text ≡ line_bytes (record { number = number; deed = deed_said deed.now })) }
+{
+    let line = Line {
+        number,
+        deed: said(deed)?,
+    };
+    let text = line_text(alloc, &line);
+    drop(line);
+    text
 }
 
 /// The totals of a history.

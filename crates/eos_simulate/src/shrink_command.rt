@@ -25,25 +25,29 @@ pub fn shrink_history(rt: &HostRuntime, threads: &(impl Threads + Sync), words: 
             Ok(()) => 0,
             Err(_) => end(rt, Ending::CannotWrite(STANDARD)),
         },
-        Err(why) => end_unshrunk(rt, words, why),
+        Err(why) => {
+            let status = end_unshrunk(rt, words, &why);
+            drop(why);
+            status
+        }
     }
 }
 
 /// Says why nothing is left, and gives the exit status.
-fn end_unshrunk(rt: &HostRuntime, words: &Shrink<'_>, why: Unshrunk) -> u8 {
+fn end_unshrunk(rt: &HostRuntime, words: &Shrink<'_>, why: &Unshrunk) -> u8 {
     match why {
-        Unshrunk::File(fault) => end_unchanged(rt, words.file, fault),
-        Unshrunk::Unread(fault) => end_unread(rt, Subject::Only, &fault),
-        Unshrunk::Refused(fault) => end_refused(rt, words.history, fault),
-        Unshrunk::Unfit(fault, lines) => end_unfit(rt, words, fault, lines),
+        Unshrunk::File(fault) => end_unchanged(rt, words.file, *fault),
+        Unshrunk::Unread(fault) => end_unread(rt, Subject::Only, fault),
+        Unshrunk::Refused(fault) => end_refused(rt, words.history, *fault),
+        Unshrunk::Unfit(fault, lines) => end_unfit(rt, words, fault, *lines),
     }
 }
 
 /// Says why a schedule, which has so many lines of what is done, isn't made small.
-fn end_unfit(rt: &HostRuntime, words: &Shrink<'_>, fault: ShrinkFault, lines: u64) -> u8 {
+fn end_unfit(rt: &HostRuntime, words: &Shrink<'_>, fault: &ShrinkFault, lines: u64) -> u8 {
     match fault {
         ShrinkFault::Unreplayed(fault) => end_unreplayed(rt, words.history, lines, fault),
-        ShrinkFault::Otherwise(verdict) => match tell_verdict(rt, words, &verdict) {
+        ShrinkFault::Otherwise(verdict) => match tell_verdict(rt, words, verdict) {
             Ok(()) => 2,
             Err(_) => end(rt, Ending::OutOfMemory),
         },

@@ -1,7 +1,9 @@
 //! The smallest schedule that is found to give a fault: lines are left out, in chunks of halving size, until no single one can go.
 
-ghost use Rattle.std.specs.Prelude.{◌≡◌, ◌≤◌, ◌<◌, true, length, IfOk, IfSome, OnOk, List, string_bytes};
+ghost use Rattle.std.specs.Prelude.{◌≡◌, ◌≤◌, ◌<◌, true, [], length, IfOk, IfSome, OnOk, List, string_bytes};
 ghost use Rattle.eos_history_lines.specs.declared.line.Deed.{Deed as SaidDeed};
+ghost use Rattle.eos_simulate.specs.Every.{IsJudged};
+ghost use Rattle.eos_simulate.specs.Histories.{acts_of, acts_said};
 ghost use Rattle.eos_simulate.specs.Parts.{IsPartOf, unnamed_deeds, unnamed_lines};
 ghost use Rattle.eos_simulate.specs.Shrinking.{code_of, IsShrunk};
 ghost use Rattle.eos_simulate.specs.steps.Judging.{IsFaultOf};
@@ -81,7 +83,7 @@ pub fn shrink<R: Threads + Sync>(
 }
 
 /// The schedule itself.
-#[tactic(auto, using(crate::proofs::ShrunkParts::shrunk_whole))]
+#[tactic(auto, using(crate::proofs::ShrunkParts::part_all))]
 fn first<R: Threads + Sync>(
     alloc: Global,
     rt: &R,
@@ -91,15 +93,10 @@ fn first<R: Threads + Sync>(
     ensures { IfOk result (λ shrunk. IsShrunk schedule.now.head.config code.now (unnamed_lines schedule.now.lines) shrunk.history) }
 {
     let mut history = History::new(alloc);
-    let evidence = match replay(alloc, schedule, &mut history, false) {
-        Ok(evidence) => evidence,
-        Err(fault) => return Err(ShrinkFault::Unreplayed(fault)),
-    };
-    let verdict = check_one(alloc, rt, &evidence)?;
-    if is_fault(alloc, &verdict, code)? {
-        return Ok(Shrunk { history, runs: 1 });
+    match give_fault(alloc, rt, schedule, code, &mut history) {
+        Ok(()) => Ok(Shrunk { history, runs: 1 }),
+        Err(fault) => Err(fault),
     }
-    Err(ShrinkFault::Otherwise(verdict))
 }
 
 /// Leaves out each single line that isn't needed, until none is left.
@@ -184,7 +181,6 @@ fn without<R: Threads + Sync>(
 }
 
 /// What a schedule does, if it gives the fault.
-#[tactic(auto, using(crate::proofs::ShrunkParts::shrunk_by))]
 fn given<R: Threads + Sync>(
     alloc: Global,
     rt: &R,
@@ -194,16 +190,67 @@ fn given<R: Threads + Sync>(
     ensures { (whole : List SaidDeed) → IsPartOf (unnamed_lines schedule.now.lines) whole → IfOk result (λ found. IfSome found (IsShrunk schedule.now.head.config code.now whole)) }
 {
     let mut history = History::new(alloc);
-    match replay(alloc, schedule, &mut history, false) {
-        Ok(evidence) => {
-            let verdict = check_one(alloc, rt, &evidence)?;
-            if is_fault(alloc, &verdict, code)? {
-                return Ok(Some(history));
+    match give_fault(alloc, rt, schedule, code, &mut history) {
+        Ok(()) => Ok(Some(history)),
+        Err(fault) => {
+            let is_of_memory = is_of_memory(&fault);
+            drop(fault);
+            if is_of_memory {
+                return Err(ShrinkFault::OutOfMemory);
             }
             Ok(None)
         }
-        Err(ReplayFault::OutOfMemory) => Err(ShrinkFault::OutOfMemory),
-        Err(_) => Ok(None),
+    }
+}
+
+fn is_of_memory(fault: &ShrinkFault) -> bool {
+    matches!(
+        fault,
+        ShrinkFault::OutOfMemory | ShrinkFault::Unreplayed(ReplayFault::OutOfMemory)
+    )
+}
+
+/// Runs a schedule, which gives the fault.
+///
+/// # Errors
+/// Why it leaves no evidence; its verdict, where that isn't a fault of this code; want of memory.
+#[tactic(auto, using(crate::proofs::ShrunkParts::shrunk_by))]
+fn give_fault<R: Threads + Sync>(
+    alloc: Global,
+    rt: &R,
+    schedule: &Schedule,
+    code: &str,
+    history: &mut History,
+) -> Result<(), ShrinkFault>
+    ensures { (whole : List SaidDeed) → history.old ≡ [] → IsPartOf (unnamed_lines schedule.now.lines) whole → OnOk result (IsShrunk schedule.now.head.config code.now whole history.new) }
+{
+    let verdict = judged(alloc, rt, schedule, history)?;
+    match is_fault(alloc, &verdict, code) {
+        Ok(false) => Err(ShrinkFault::Otherwise(verdict)),
+        Ok(true) => {
+            drop(verdict);
+            Ok(())
+        }
+        Err(_) => {
+            drop(verdict);
+            Err(ShrinkFault::OutOfMemory)
+        }
+    }
+}
+
+/// Runs a schedule, and judges what it leaves.
+fn judged<R: Threads + Sync>(
+    alloc: Global,
+    rt: &R,
+    schedule: &Schedule,
+    history: &mut History,
+) -> Result<Verdict, ShrinkFault>
+    ensures judged { history.old ≡ [] → IfOk result (IsJudged schedule.now.head.config history.new) }
+    ensures done { history.old ≡ [] → OnOk result (acts_of history.new ≡ acts_said schedule.now.lines) }
+{
+    match replay(alloc, schedule, history, false) {
+        Ok(evidence) => Ok(check_one(alloc, rt, &evidence)?),
+        Err(fault) => Err(ShrinkFault::Unreplayed(fault)),
     }
 }
 
