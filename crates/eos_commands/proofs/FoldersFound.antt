@@ -1,8 +1,8 @@
 -- The folders at the paths so far, and the first that is refused.
-use Rattle.std.proofs.Common.{◌≡◌, ◌<◌, ◌≤◌, ◌+◌, ◌⊎◌, ◌||◌, ◌++◌, ℕ, List, Bor, [], ◌∷◌, Bool, true, false, not, length, get_or, take, drop, map, inl, inr, refl, sym, ap, ◌∙◌, subst}
+use Rattle.std.proofs.Common.{◌≡◌, ◌<◌, ◌≤◌, ◌+◌, ◌||◌, ◌++◌, ℕ, List, Bor, [], ◌∷◌, Bool, true, false, not, length, get_or, take, drop, map, refl, sym, ap, ◌∙◌, subst}
 use Rattle.std.proofs.lemmas.List.{take_all, map-append}
 use Rattle.std.proofs.lemmas.List.Folds.{list_any-append}
-use Rattle.std.specs.BTreeSet.{BTreeSet, contains, Updates, IsEmpty}
+use Rattle.std.specs.BTreeSet.{BTreeSet, contains, Updates}
 use Rattle.std.specs.Ordering.{is_eq}
 use Rattle.eos_base.specs.Members.{is_found}
 use Rattle.eos_base.specs.PartitionNames.{name_cmp}
@@ -10,11 +10,11 @@ use Rattle.eos_base.specs.declared.partition_name.PartitionName.{PartitionName}
 use Rattle.eos_disk.specs.Entries.{Entry}
 use Rattle.eos_evidence.specs.declared.ends.End.{End}
 use Rattle.eos_commands.specs.Folding.{IsFolderAt, AreFoldersAt}
-use Rattle.eos_commands.specs.FoldRefusals.{IsUnfolded, AreApart, AreFit, RefusesFolder, RefusesFolded, RefusesGiven, IsFirstGiven}
+use Rattle.eos_commands.specs.FoldRefusals.{IsUnfolded, AreApart, AreFit, RefusesGiven, IsFirstGiven}
 use Rattle.eos_commands.specs.declared.fold_fault.FoldingFault.{FoldingFault}
-use Rattle.eos_commands.specs.declared.fold_fault.FoldingFault.TheVariants.{SameName, OutOfMemory}
 use Rattle.eos_commands.specs.declared.folder.PartitionFolder.{PartitionFolder}
-use Rattle.eos_commands.specs.steps.Names.{Gains}
+use Rattle.eos_commands.specs.steps.Fits.{FitsAfter}
+use Rattle.eos_commands.specs.steps.Names.{Gains, HasNamesOf}
 use Rattle.eos_commands.proofs.FoldsRefused.{parts_at, front_at, all_append}
 use Rattle.eos_commands.proofs.NameSets.{gains_one, gains_more, empty_lacks, tied_back}
 
@@ -62,15 +62,15 @@ apart_more (f ∷ folders) folder apart new = (
 )
 
 pub fit_next : (holds : List ℕ → Entry) (ends : List End) (out : List ℕ) (paths : List (Bor (List ℕ))) (i : ℕ) (d : Bor (List ℕ)) (folders more : List PartitionFolder) (folder : PartitionFolder)
-    → i < length paths → AreFit holds ends out (texts_of (take i paths)) folders → IsFolderAt holds ends (get_or paths i d).now folder → is_found name_cmp (names_of folders) folder.name ≡ false
-    → IsUnfolded holds out folder → more ≡ folders ++ folder ∷ [] → AreFit holds ends out (texts_of (take (i + 1) paths)) more
-fit_next holds ends out paths i d folders more folder lt fit is new free longer =
+    → i < length paths → AreFit holds ends out (texts_of (take i paths)) folders → FitsAfter holds ends out folders (get_or paths i d).now folder
+    → more ≡ folders ++ folder ∷ [] → AreFit holds ends out (texts_of (take (i + 1) paths)) more
+fit_next holds ends out paths i d folders more folder lt fit here longer =
     let front : texts_of (take (i + 1) paths) ≡ texts_of (take i paths) ++ (get_or paths i d).now ∷ []
     = ap texts_of (front_at paths i d (get_or paths i d) lt refl) ∙ map-append (λ (p : Bor (List ℕ)). p.now) (take i paths) (get_or paths i d ∷ []) in
     subst (λ (ps : List (List ℕ)). AreFit holds ends out ps more) (sym front) (subst (λ (fs : List PartitionFolder). AreFit holds ends out (texts_of (take i paths) ++ (get_or paths i d).now ∷ []) fs) (sym longer) (record {
-      found = found_more holds ends (texts_of (take i paths)) (get_or paths i d).now folders folder fit.found is;
-      apart = apart_more folders folder fit.apart new;
-      unfolded = all_append (IsUnfolded holds out) folders (folder ∷ []) fit.unfolded (free, tt);
+      found = found_more holds ends (texts_of (take i paths)) (get_or paths i d).now folders folder fit.found here.is;
+      apart = apart_more folders folder fit.apart here.new;
+      unfolded = all_append (IsUnfolded holds out) folders (folder ∷ []) fit.unfolded (here.unfolded, tt);
     }))
 
 pub fit_all : (holds : List ℕ → Entry) (ends : List End) (out : List ℕ) (paths : List (Bor (List ℕ))) (i : ℕ) (folders : List PartitionFolder) → length paths ≤ i
@@ -78,10 +78,6 @@ pub fit_all : (holds : List ℕ → Entry) (ends : List End) (out : List ℕ) (p
 fit_all holds ends out paths i folders all fit = subst (λ (ps : List (Bor (List ℕ))). AreFit holds ends out (texts_of ps) folders) (take_all i paths all) fit
 
 -- ---- their names
-
--- the set has their names alone
-abbrev pub HasNamesOf : BTreeSet PartitionName → List PartitionFolder → Type 0
-HasNamesOf names folders = (none : BTreeSet PartitionName) × IsEmpty none × Gains none (names_of folders) names
 
 pub names_next : (old new : BTreeSet PartitionName) (folders more : List PartitionFolder) (folder : PartitionFolder) (key : PartitionName) → HasNamesOf old folders → Updates name_cmp old new key true → key ≡ folder.name
     → more ≡ folders ++ folder ∷ [] → HasNamesOf new more
@@ -92,6 +88,9 @@ names_next old new folders more folder key has updates is longer = (
       (sym (ap names_of longer ∙ map-append (λ (f : PartitionFolder). f.name) folders (folder ∷ []) ∙ ap (λ (k : PartitionName). names_of folders ++ k ∷ []) (sym is)))
       (gains_more has.0 old new (names_of folders) (key ∷ []) has.2 (gains_one old new key updates)),
 )
+
+pub same_names : (names : BTreeSet PartitionName) (folders more : List PartitionFolder) → more ≡ folders → HasNamesOf names folders → HasNamesOf names more
+same_names names folders more is has = subst (λ (fs : List PartitionFolder). HasNamesOf names fs) (sym is) has
 
 pub is_named : (names : BTreeSet PartitionName) (folders : List PartitionFolder) (folder : PartitionFolder) (key : PartitionName) → HasNamesOf names folders → key ≡ folder.name
     → contains name_cmp names key ≡ is_found name_cmp (names_of folders) folder.name
@@ -116,7 +115,7 @@ is_second names folders folder key added has is told so = sym (is_named names fo
 
 -- ---- the first that is refused
 
-given_at : (holds : List ℕ → Entry) (ends : List End) (out : List ℕ) (paths : List (Bor (List ℕ))) (i : ℕ) (d : Bor (List ℕ)) (folders : List PartitionFolder) (why : FoldingFault) → i < length paths
+pub given_at : (holds : List ℕ → Entry) (ends : List End) (out : List ℕ) (paths : List (Bor (List ℕ))) (i : ℕ) (d : Bor (List ℕ)) (folders : List PartitionFolder) (why : FoldingFault) → i < length paths
     → AreFit holds ends out (texts_of (take i paths)) folders → RefusesGiven holds ends out folders (get_or paths i d).now why → IsFirstGiven holds ends out (texts_of paths) why
 given_at holds ends out paths i d folders why lt fit refused = record {
   before = texts_of (take i paths);
@@ -127,18 +126,3 @@ given_at holds ends out paths i d folders why lt fit refused = record {
   fit = fit;
   refused = refused;
 }
-
-pub not_found : (holds : List ℕ → Entry) (ends : List End) (out : List ℕ) (paths : List (Bor (List ℕ))) (i : ℕ) (d : Bor (List ℕ)) (folders : List PartitionFolder) (why : FoldingFault) → i < length paths
-    → AreFit holds ends out (texts_of (take i paths)) folders → RefusesFolder ends (get_or paths i d).now why → (why ≡ OutOfMemory) ⊎ IsFirstGiven holds ends out (texts_of paths) why
-not_found holds ends out paths i d folders why lt fit refused = inr (given_at holds ends out paths i d folders why lt fit (inl refused))
-
-pub second : (holds : List ℕ → Entry) (ends : List End) (out : List ℕ) (paths : List (Bor (List ℕ))) (i : ℕ) (d path : Bor (List ℕ)) (folders : List PartitionFolder) (folder : PartitionFolder) → i < length paths
-    → AreFit holds ends out (texts_of (take i paths)) folders → IsFolderAt holds ends (get_or paths i d).now folder → path.now ≡ (get_or paths i d).now
-    → is_found name_cmp (names_of folders) folder.name ≡ true → (SameName path ≡ OutOfMemory) ⊎ IsFirstGiven holds ends out (texts_of paths) (SameName path)
-second holds ends out paths i d path folders folder lt fit is at so =
-    inr (given_at holds ends out paths i d folders (SameName path) lt fit (inr (folder, is, inl (path, refl, at ∙ sym is.path_is, so))))
-
-pub folded_before : (holds : List ℕ → Entry) (ends : List End) (out : List ℕ) (paths : List (Bor (List ℕ))) (i : ℕ) (d : Bor (List ℕ)) (folders : List PartitionFolder) (folder : PartitionFolder) (why : FoldingFault)
-    → i < length paths → AreFit holds ends out (texts_of (take i paths)) folders → IsFolderAt holds ends (get_or paths i d).now folder → is_found name_cmp (names_of folders) folder.name ≡ false
-    → RefusesFolded holds out folder why → (why ≡ OutOfMemory) ⊎ IsFirstGiven holds ends out (texts_of paths) why
-folded_before holds ends out paths i d folders folder why lt fit is new refused = inr (given_at holds ends out paths i d folders why lt fit (inr (folder, is, inr (new, refused))))

@@ -14,7 +14,7 @@ use Rattle.eos_fold_file.specs.declared.file.FoldFile.{FoldFile}
 use Rattle.eos_reading.specs.declared.wanted.Wanted.{Wanted}
 use Rattle.eos_reading.specs.Wanted.{wanted_of}
 use Rattle.eos_commits.specs.SourceTopics.{AreSourceTopics}
-use Rattle.eos_commands.specs.FoldRefusals.{fold_in, AreFit, IsFoldedTo, IsFirstGiven, IsUnwritten, IsUnreadLog, RefusesLog, IsFirstLog, RefusesFolds}
+use Rattle.eos_commands.specs.FoldRefusals.{fold_in, AreFit, IsFoldedTo, IsFirstGiven, IsUnwritten, IsUnreadLog, RefusesLog, IsFirstLog, RefusesByParts, RefusesFolds}
 use Rattle.eos_commands.specs.Folding.{Item, segment_of, item_of, items_in, items_of, IsFoldAt, IsFoldLeft, Folded}
 use Rattle.eos_commands.specs.declared.fold_fault.FoldingFault.{FoldingFault}
 use Rattle.eos_commands.specs.declared.fold_fault.FoldingFault.TheVariants.{OutOfMemory}
@@ -38,26 +38,22 @@ all_next {X} P xs i d x lt at all this = subst (AllByRecursion P) (sym (front_at
 
 -- ---- a fold that is there
 
-named_in : (out : List ℕ) (folder : PartitionFolder) (base : ℤ) (segment : Segment) (path : List ℕ)
-    → segment ≡ record { topic = folder.name.topic; partition = folder.name.partition; base = base; bytes = [] } → path ≡ segment_path out segment Fold → path ≡ fold_in out folder base
-named_in out folder base segment path named at = at ∙ ap (λ (s : Segment). segment_path out s Fold) named
-
-pub unfolded_next : (holds : List ℕ → Entry) (out : List ℕ) (folder : PartitionFolder) (bases : List ℤ) (i : ℕ) (d base : ℤ) (segment : Segment) (path : List ℕ) → i < length bases → base ≡ get_or bases i d
-    → segment ≡ record { topic = folder.name.topic; partition = folder.name.partition; base = base; bytes = [] } → path ≡ segment_path out segment Fold → MayBeAbsent (holds path)
+pub unfolded_next : (holds : List ℕ → Entry) (out : List ℕ) (folder : PartitionFolder) (bases : List ℤ) (i : ℕ) (d base : ℤ) (path : List ℕ) → i < length bases → base ≡ get_or bases i d
+    → path ≡ fold_in out folder base → MayBeAbsent (holds path)
     → AllByRecursion (λ b. MayBeAbsent (holds (fold_in out folder b))) (take i bases) → AllByRecursion (λ b. MayBeAbsent (holds (fold_in out folder b))) (take (i + 1) bases)
-unfolded_next holds out folder bases i d base segment path lt at named is free all =
-    all_next (λ b. MayBeAbsent (holds (fold_in out folder b))) bases i d base lt at all (subst (λ (p : List ℕ). MayBeAbsent (holds p)) (named_in out folder base segment path named is) free)
+unfolded_next holds out folder bases i d base path lt at is free all =
+    all_next (λ b. MayBeAbsent (holds (fold_in out folder b))) bases i d base lt at all (subst (λ (p : List ℕ). MayBeAbsent (holds p)) is free)
 
-pub folded_to : (holds : List ℕ → Entry) (out : List ℕ) (folder : PartitionFolder) (bases : List ℤ) (i : ℕ) (d base : ℤ) (segment : Segment) (path : List ℕ) → i < length bases → base ≡ get_or bases i d
-    → bases ≡ folder.bases.items → segment ≡ record { topic = folder.name.topic; partition = folder.name.partition; base = base; bytes = [] } → path ≡ segment_path out segment Fold → MayStand (holds path)
+pub folded_to : (holds : List ℕ → Entry) (out : List ℕ) (folder : PartitionFolder) (bases : List ℤ) (i : ℕ) (d base : ℤ) (path : List ℕ) → i < length bases → base ≡ get_or bases i d
+    → bases ≡ folder.bases.items → path ≡ fold_in out folder base → MayStand (holds path)
     → AllByRecursion (λ b. MayBeAbsent (holds (fold_in out folder b))) (take i bases) → IsFoldedTo holds out folder path
-folded_to holds out folder bases i d base segment path lt at lent named is there all = record {
+folded_to holds out folder bases i d base path lt at lent is there all = record {
   before = take i bases;
   base = base;
   later = drop (i + 1) bases;
   are = sym lent ∙ parts_at bases i d base lt at;
   unfolded = all;
-  at = named_in out folder base segment path named is;
+  at = is;
   there = there;
 }
 
@@ -114,33 +110,33 @@ first_in_all old mid new topics out apps folders i folder wanted why lt at is fo
 
 -- ---- all
 
-pub given_refused : (old : List ℕ → Entry) (manifest out : List ℕ) (paths : List (List ℕ)) (text : List ℕ) (spec : SpecFields) (ends : List End) (why : FoldingFault) → HasBytes (old manifest) text
-    → spec_said_by text ≡ Ok spec → ends ≡ spec.ends → (why ≡ OutOfMemory) ⊎ IsFirstGiven old ends out paths why → RefusesFolds old manifest out paths old why
-given_refused old manifest out paths text spec ends why stands says are (inl memory) = inl memory
-given_refused old manifest out paths text spec ends why stands says are (inr first) = inr (inr (record {
-  text = text;
-  spec = spec;
-  stands = stands;
-  says = says;
-  refused = inl (subst (λ (es : List End). IsFirstGiven old es out paths why) are first);
-}))
+pub given_refused : (old : List ℕ → Entry) (out : List ℕ) (paths : List (List ℕ)) (spec : SpecFields) (ends : List End) (why : FoldingFault)
+    → ends ≡ spec.ends → (why ≡ OutOfMemory) ⊎ IsFirstGiven old ends out paths why → (why ≡ OutOfMemory) ⊎ RefusesByParts old spec out paths old why
+given_refused old out paths spec ends why are (inl memory) = inl memory
+given_refused old out paths spec ends why are (inr first) = inr (inl (subst (λ (es : List End). IsFirstGiven old es out paths why) are first))
 
-pub log_refused : (old new : List ℕ → Entry) (manifest out : List ℕ) (paths : List (List ℕ)) (text : List ℕ) (spec : SpecFields) (ends : List End) (folders lent : List PartitionFolder) (apps : List App)
-    (topics wanted : List (List ℕ)) (why : FoldingFault) → HasBytes (old manifest) text → spec_said_by text ≡ Ok spec → ends ≡ spec.ends → AreFit old ends out paths folders → lent ≡ folders
-    → apps ≡ spec.apps → AreSourceTopics apps topics → wanted ≡ topics → (why ≡ OutOfMemory) ⊎ IsFirstLog old wanted out (items_of apps lent) new why → RefusesFolds old manifest out paths new why
-log_refused old new manifest out paths text spec ends folders lent apps topics wanted why stands says are fit l a read w (inl memory) = inl memory
-log_refused old new manifest out paths text spec ends folders lent apps topics wanted why stands says are fit l a read w (inr first) = inr (inr (record {
+pub log_refused : (old new : List ℕ → Entry) (out : List ℕ) (paths : List (List ℕ)) (spec : SpecFields) (ends : List End) (folders lent : List PartitionFolder) (apps : List App)
+    (topics wanted : List (List ℕ)) (why : FoldingFault) → ends ≡ spec.ends → AreFit old ends out paths folders → lent ≡ folders
+    → apps ≡ spec.apps → AreSourceTopics apps topics → wanted ≡ topics → (why ≡ OutOfMemory) ⊎ IsFirstLog old wanted out (items_of apps lent) new why
+    → (why ≡ OutOfMemory) ⊎ RefusesByParts old spec out paths new why
+log_refused old new out paths spec ends folders lent apps topics wanted why are fit l a read w (inl memory) = inl memory
+log_refused old new out paths spec ends folders lent apps topics wanted why are fit l a read w (inr first) = inr (inr (
+  folders,
+  topics,
+  subst (λ (es : List End). AreFit old es out paths folders) are fit,
+  subst (λ (xs : List App). AreSourceTopics xs topics) a read,
+  subst (λ (ts : List (List ℕ)). IsFirstLog old ts out (items_of spec.apps folders) new why) w
+      (subst (λ (xs : List App). IsFirstLog old wanted out (items_of xs folders) new why) a
+      (subst (λ (fs : List PartitionFolder). IsFirstLog old wanted out (items_of apps fs) new why) l first)),
+))
+
+pub refused_by : (old new : List ℕ → Entry) (manifest own out : List ℕ) (paths : List (List ℕ)) (text : List ℕ) (spec : SpecFields) (why : FoldingFault) → own ≡ manifest → HasBytes (old own) text
+    → spec_said_by text ≡ Ok spec → (why ≡ OutOfMemory) ⊎ RefusesByParts old spec out paths new why → RefusesFolds old manifest out paths new why
+refused_by old new manifest own out paths text spec why is stands says (inl memory) = inl memory
+refused_by old new manifest own out paths text spec why is stands says (inr refused) = inr (inr (record {
   text = text;
   spec = spec;
-  stands = stands;
+  stands = subst (λ (p : List ℕ). HasBytes (old p) text) is stands;
   says = says;
-  refused = inr (
-    folders,
-    topics,
-    subst (λ (es : List End). AreFit old es out paths folders) are fit,
-    subst (λ (xs : List App). AreSourceTopics xs topics) a read,
-    subst (λ (ts : List (List ℕ)). IsFirstLog old ts out (items_of spec.apps folders) new why) w
-        (subst (λ (xs : List App). IsFirstLog old wanted out (items_of xs folders) new why) a
-        (subst (λ (fs : List PartitionFolder). IsFirstLog old wanted out (items_of apps fs) new why) l first)),
-  );
+  refused = refused;
 }))

@@ -1,5 +1,5 @@
 -- Why no manifest is made, of what each step refused.
-use Rattle.std.proofs.Common.{◌≡◌, ◌⊎◌, ℕ, List, Option, Some, Ok, Err, [], map, option_map, inl, inr, sym, ap, ◌∙◌, subst, String, Global, string_bytes}
+use Rattle.std.proofs.Common.{◌≡◌, ◌⊎◌, ℕ, List, Option, None, Some, Ok, Err, [], map, option_map, inl, inr, sym, ap, ◌∙◌, subst, String, Global, string_bytes}
 use Rattle.eos_base.specs.Members.{Has}
 use Rattle.eos_base.specs.declared.partition_name.PartitionName.{PartitionName}
 use Rattle.eos_disk.specs.Entries.{Entry, MayBeAbsent, MayStand}
@@ -10,7 +10,10 @@ use Rattle.eos_evidence.specs.SpecFields.{SpecFields, accepted}
 use Rattle.eos_evidence.specs.declared.fault.SpecFault.{SpecFault}
 use Rattle.eos_commands.specs.Copies.{AreFoldersAt, AreRequired}
 use Rattle.eos_commands.specs.InitRefusals.{RefusesBy, RefusesAt, RefusesWords, RefusesCopy, RefusesStates, RefusesEnds, RefusesParts, RefusesMaking, RefusesInit, AreAskedFor, IsAsked, IsUnput}
+use Rattle.eos_manifest.specs.Manifests.{first_without, parts_for}
 use Rattle.eos_commands.specs.Making.{apps_in_words, AreEndsGiven, IsManifestFor}
+use Rattle.eos_commands.proofs.ManifestParts.{manifest_is}
+use Rattle.eos_commands.specs.steps.Refused.{RefusesThere, RefusesManifest}
 use Rattle.eos_commands.specs.declared.given.Given.{Given}
 use Rattle.eos_commands.specs.declared.init_fault.InitFault.{InitFault}
 use Rattle.eos_commands.specs.declared.init_fault.InitFault.TheVariants.{ThereAlready, Apps, OutOfMemory}
@@ -24,28 +27,23 @@ ends_of given = option_map (λ p. p.now) given.ends
 pub not_words : (given : Given) (holds : List ℕ → Entry) (old new : Option (List ℕ)) (why : InitFault) → RefusesWords (words_of given) why → RefusesMaking given holds old new why
 not_words given holds old new why h = inr (inl h)
 
-pub not_folder : (given : Given) (holds : List ℕ → Entry) (old new : Option (List ℕ)) (apps : List App) (why : InitFault) → AreAskedFor (words_of given) apps
-    → RefusesBy (RefusesAt holds given.folder.now) why → RefusesMaking given holds old new why
-not_folder given holds old new apps why words h = inr (inr (inl (apps, words, h)))
+pub unread_states : (holds : List ℕ → Entry) (folder : List ℕ) (apps : List App) (folders found : List PartitionName) (why : InitFault) → AreFoldersAt holds folder folders → found ≡ folders
+    → (why ≡ OutOfMemory) ⊎ RefusesStates holds folder apps found why → RefusesThere holds folder apps why
+unread_states holds folder apps folders found why there f (inl memory) = inl (subst (RefusesBy (RefusesAt holds folder)) (sym memory) tt)
+unread_states holds folder apps folders found why there f (inr h) = inr (folders, there, subst (λ (xs : List PartitionName). RefusesStates holds folder apps xs why) f h)
 
-pub not_states : (given : Given) (holds : List ℕ → Entry) (old new : Option (List ℕ)) (apps listed : List App) (folders found : List PartitionName) (why : InitFault)
-    → AreAskedFor (words_of given) apps → AreFoldersAt holds given.folder.now folders → listed ≡ apps → found ≡ folders
-    → (why ≡ OutOfMemory) ⊎ RefusesStates holds given.folder.now listed found why → RefusesMaking given holds old new why
-not_states given holds old new apps listed folders found why words there l f (inl memory) = inl memory
-not_states given holds old new apps listed folders found why words there l f (inr h) = inr (inr (inr (inl (
-  apps,
-  folders,
-  words,
-  there,
-  subst (λ (xs : List App). RefusesStates holds given.folder.now xs folders why) l (subst (λ (xs : List PartitionName). RefusesStates holds given.folder.now listed xs why) f h),
-))))
+pub not_there : (given : Given) (holds : List ℕ → Entry) (old new : Option (List ℕ)) (apps listed : List App) (why : InitFault) → AreAskedFor (words_of given) apps → listed ≡ apps
+    → RefusesThere holds given.folder.now listed why → RefusesMaking given holds old new why
+not_there given holds old new apps listed why words l (inl h) = inr (inr (inl (apps, words, h)))
+not_there given holds old new apps listed why words l (inr h) =
+    inr (inr (inr (inl (apps, h.0, words, h.1, subst (λ (xs : List App). RefusesStates holds given.folder.now xs h.0 why) l h.2))))
 
-pub asked_for : (given : Given) (holds : List ℕ → Entry) (apps listed : List App) (folders found required : List PartitionName) → AreAskedFor (words_of given) apps
-    → AreFoldersAt holds given.folder.now folders → listed ≡ apps → found ≡ folders → AreRequired holds given.folder.now listed found required → IsAsked given holds apps folders required
-asked_for given holds apps listed folders found required words there l f asked = record {
+pub asked_for : (given : Given) (holds : List ℕ → Entry) (apps listed : List App) (folders required : List PartitionName) → AreAskedFor (words_of given) apps
+    → AreFoldersAt holds given.folder.now folders → listed ≡ apps → AreRequired holds given.folder.now listed folders required → IsAsked given holds apps folders required
+asked_for given holds apps listed folders required words there l asked = record {
   words = words;
   there = there;
-  asked = subst (λ (xs : List App). AreRequired holds given.folder.now xs folders required) l (subst (λ (xs : List PartitionName). AreRequired holds given.folder.now listed xs required) f asked);
+  asked = subst (λ (xs : List App). AreRequired holds given.folder.now xs folders required) l asked;
 }
 
 pub not_ends : (given : Given) (holds : List ℕ → Entry) (old new : Option (List ℕ)) (apps : List App) (folders required wanted : List PartitionName) (why : InitFault) → IsAsked given holds apps folders required
@@ -58,23 +56,26 @@ not_ends given holds old new apps folders required wanted why asked w h = inr (i
   subst (λ (xs : List PartitionName). RefusesEnds (ends_of given) holds given.folder.now folders xs old new why) w h,
 )))))
 
-pub not_parts : (given : Given) (holds : List ℕ → Entry) (old new : Option (List ℕ)) (apps : List App) (folders required wanted : List PartitionName) (ends said : List End) (why : InitFault)
-    → IsAsked given holds apps folders required → wanted ≡ required → AreEndsGiven (ends_of given) holds given.folder.now folders wanted old new ends → said ≡ ends → RefusesParts apps required said why
-    → RefusesMaking given holds old new why
-not_parts given holds old new apps folders required wanted ends said why asked w gives s h = inr (inr (inr (inr (inr (inl (
+pub unnoted : (holds : List ℕ → Entry) (folder : List ℕ) (apps : List App) (required : List PartitionName) (ends : List End) (spec : SpecFields) (why : InitFault) → first_without ends required ≡ None
+    → accepted (parts_for apps required ends) ≡ Ok spec → (why ≡ OutOfMemory) ⊎ ((e : End) × Has spec.ends e × RefusesBy (RefusesCopy holds (path_of_end folder e)) why)
+    → RefusesManifest holds folder apps required ends why
+unnoted holds folder apps required ends spec why none accepts (inl memory) = inl (subst (RefusesParts apps required ends) (sym memory) tt)
+unnoted holds folder apps required ends spec why none accepts (inr h) = inr (spec, h.0, none, accepts, h.1, h.2)
+
+pub not_manifest : (given : Given) (holds : List ℕ → Entry) (old new : Option (List ℕ)) (apps : List App) (folders required wanted : List PartitionName) (ends : List End) (why : InitFault)
+    → IsAsked given holds apps folders required → wanted ≡ required → AreEndsGiven (ends_of given) holds given.folder.now folders wanted old new ends
+    → RefusesManifest holds given.folder.now apps required ends why → RefusesMaking given holds old new why
+not_manifest given holds old new apps folders required wanted ends why asked w gives (inl h) = inr (inr (inr (inr (inr (inl (
   apps,
   folders,
   required,
   ends,
   asked,
   subst (λ (xs : List PartitionName). AreEndsGiven (ends_of given) holds given.folder.now folders xs old new ends) w gives,
-  subst (λ (xs : List End). RefusesParts apps required xs why) s h,
+  h,
 ))))))
-
-pub not_noted : (given : Given) (holds : List ℕ → Entry) (old new : Option (List ℕ)) (spec : SpecFields) (why : InitFault) → IsManifestFor given holds old new spec
-    → (why ≡ OutOfMemory) ⊎ ((e : End) × Has spec.ends e × RefusesBy (RefusesCopy holds (path_of_end given.folder.now e)) why) → RefusesMaking given holds old new why
-not_noted given holds old new spec why is (inl memory) = inl memory
-not_noted given holds old new spec why is (inr h) = inr (inr (inr (inr (inr (inr (spec, h.0, is, h.1, h.2))))))
+not_manifest given holds old new apps folders required wanted ends why asked w gives (inr h) =
+    inr (inr (inr (inr (inr (inr (h.0, h.1, manifest_is given holds old new h.0 apps folders required wanted ends asked gives h.2 h.3 w, h.4, h.5))))))
 
 pub not_together : (words : List (List ℕ)) (apps copied : List App) (ends : List End) (fault : SpecFault) → apps_in_words words ≡ Some apps → copied ≡ apps → ends ≡ []
     → Err fault ≡ accepted (record { apps = copied; ends = ends }) → RefusesWords words (Apps fault)

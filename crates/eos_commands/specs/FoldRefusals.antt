@@ -136,15 +136,19 @@ pub record IsFirstLog (old : List ℕ → Entry) (topics : List (List ℕ)) (out
 abbrev pub IsOfManifest : (List ℕ → Entry) → List ℕ → FoldingFault → Type 0
 IsOfManifest holds manifest why = (fault : FolderFault) × (why ≡ Unread fault) × RefusesManifest holds manifest fault
 
--- the manifest says its parts, and it is of the first folder that is refused; or of the first log, where none is
+-- by the parts of a manifest it is of the first folder that is refused; or of the first log, where none is
+abbrev pub RefusesByParts : (List ℕ → Entry) → SpecFields → List ℕ → List (List ℕ) → (List ℕ → Entry) → FoldingFault → Type 0
+RefusesByParts old spec out paths new why = IsFirstGiven old spec.ends out paths why
+    ⊎ ((folders : List PartitionFolder) × (topics : List (List ℕ)) × AreFit old spec.ends out paths folders × AreSourceTopics spec.apps topics
+    × IsFirstLog old topics out (items_of spec.apps folders) new why)
+
+-- the manifest says its parts, and by these it is refused
 pub record IsOfFolders (old : List ℕ → Entry) (manifest out : List ℕ) (paths : List (List ℕ)) (new : List ℕ → Entry) (why : FoldingFault) : Type 0 where
   pub text : List ℕ
   pub spec : SpecFields
   pub stands : HasBytes (old manifest) text
   pub says : spec_said_by text ≡ Ok spec
-  pub refused : IsFirstGiven old spec.ends out paths why
-      ⊎ ((folders : List PartitionFolder) × (topics : List (List ℕ)) × AreFit old spec.ends out paths folders × AreSourceTopics spec.apps topics
-      × IsFirstLog old topics out (items_of spec.apps folders) new why)
+  pub refused : RefusesByParts old spec out paths new why
 
 -- why folders aren't folded, or memory was refused
 abbrev pub RefusesFolds : (List ℕ → Entry) → List ℕ → List ℕ → List (List ℕ) → (List ℕ → Entry) → FoldingFault → Type 0

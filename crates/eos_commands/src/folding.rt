@@ -11,7 +11,7 @@ ghost use Rattle.eos_fold_file.specs.Reading.{read_fold as fold_read_of};
 ghost use Rattle.eos_disk.specs.Refusals.{RefusesFile};
 ghost use Rattle.eos_commits.specs.SourceTopics.{AreSourceTopics};
 ghost use Rattle.eos_commands.specs.Folding.{item_of, items_in, items_of, AreFoldersAt, IsFoldAt, IsFoldPut, IsFoldLeft, Folded as AreFolded, FoldedInPart};
-ghost use Rattle.eos_commands.specs.FoldRefusals.{IsUnreadLog, RefusesLog, IsFirstLog, RefusesFolds};
+ghost use Rattle.eos_commands.specs.FoldRefusals.{IsUnreadLog, RefusesLog, IsFirstLog, RefusesByParts, RefusesFolds};
 ghost use Rattle.eos_disk.specs.Paths.{file_path};
 ghost use Rattle.eos_disk.specs.declared.names.Form.TheVariants.{Log};
 ghost use Rattle.eos_commands.specs.declared.folder.PartitionFolder.{PartitionFolder};
@@ -23,10 +23,10 @@ use crate::folder::{PartitionFolder, find_folders};
 use bytes::Bytes;
 use eos_commits::source_topics;
 use eos_disk::{Disk, DiskMut, FolderFault, NamedFile, open_file, read_manifest, refusal_of};
-use eos_evidence::{App, ReadFault};
+use eos_evidence::{App, ReadFault, Spec};
 use eos_fold_file::{FoldFile, encode_fold, fold_of};
 use eos_reading::{Wanted, Wants};
-use std::alloc::Global;
+use std::alloc::{AllocError, Global};
 use std::io::Read;
 
 /// What is given.
@@ -95,9 +95,25 @@ pub fn fold_folders<'a, D: DiskMut>(
 {
     let manifest = String::from_str(alloc, given.manifest)?;
     let spec = read_manifest(alloc, &*disk, manifest)?;
+    put_by(alloc, disk, &spec, given)
+}
+
+/// Folds each segment that lies in these folders, by the parts of their manifest.
+#[tactic(auto, using(crate::proofs::FoldsMore::nothing_folded))]
+fn put_by<'a, D: DiskMut>(
+    alloc: Global,
+    disk: &mut D,
+    spec: &Spec,
+    given: FoldGiven<'a>,
+) -> Result<Folded, FoldingFault<'a>>
+    ensures ok { OnOk result ((folders : List PartitionFolder) × (topics : List (List ℕ)) × AreFoldersAt (D.holds disk.old) spec.now.ends (map (λ p. p.now) given.entry.folders.now) folders
+        × AreSourceTopics spec.now.apps topics × AreFolded (D.holds disk.old) topics given.entry.out.now (items_of spec.now.apps folders) (D.holds disk.new)) }
+    ensures err { OnErr result ((topics : List (List ℕ)) × FoldedInPart (D.holds disk.old) topics given.entry.out.now (D.holds disk.new)) }
+    ensures refused { IfErr result (λ why. (why ≡ OutOfMemory) ⊎ RefusesByParts (D.holds disk.old) spec.now given.entry.out.now (map (λ p. p.now) given.entry.folders.now) (D.holds disk.new) why) }
+{
     let ends = spec.ends().as_slice();
-    let folders = find_folders(alloc, &*disk, given.folders, ends, given.out)?;
     let apps = spec.apps().as_slice();
+    let folders = find_folders(alloc, &*disk, given.folders, ends, given.out)?;
     let topics = source_topics(alloc, apps)?;
     let roles = Roles {
         apps,
@@ -185,9 +201,18 @@ fn encoded<'a, D: Disk>(
         × (made.0.items ≡ fold_text fold) × (fold_read_of made.0.items ≡ Ok fold)) }
     ensures refused { IfErr result (IsUnreadLog (D.holds disk.now) (file_path folder.now.path.now base Log)) }
 {
-    let fold = read_fold(alloc, disk, folder, base, asked)?;
-    let bytes = encode_fold(alloc, &fold)?;
-    Ok((bytes, fold.bytes))
+    Ok(text_of(alloc, read_fold(alloc, disk, folder, base, asked)?)?)
+}
+
+/// The text of this fold, and the number of the segment's bytes.
+pub(crate) fn text_of(alloc: Global, fold: FoldFile) -> Result<(Vec<u8>, u64), AllocError>
+    ensures bytes { IfOk result (λ made. made.0.items ≡ fold_text fold) }
+    ensures reads { IsRight fold → IfOk result (λ made. fold_read_of made.0.items ≡ Ok fold) }
+{
+    match encode_fold(alloc, &fold) {
+        Ok(text) => Ok((text, fold.bytes)),
+        Err(fault) => Err(fault),
+    }
 }
 
 /// Why reading this file ended so.

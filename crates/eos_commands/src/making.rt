@@ -1,23 +1,27 @@
 //! The manifest of a folder of copied logs, made of what the words give and what is in the folder.
 
-ghost use Rattle.std.specs.Prelude.{◌≡◌, ℕ, List, Ok, Err, IfOk, IfErr, OnOk, OnErr, string_bytes};
+ghost use Rattle.std.specs.Prelude.{◌≡◌, ℕ, List, None, Ok, Err, IfOk, IfErr, OnOk, OnErr, string_bytes};
 ghost use Rattle.std.specs.Io.KnownBytes.{Appends};
 ghost use Rattle.eos_disk.specs.Putting.{IsLeft};
 ghost use Rattle.eos_evidence.specs.Manifest.{spec_said_by};
-ghost use Rattle.eos_evidence.specs.SpecFields.{SpecFields};
+ghost use Rattle.eos_evidence.specs.SpecFields.{SpecFields, accepted};
+ghost use Rattle.eos_manifest.specs.Manifests.{first_without, parts_for};
+ghost use Rattle.eos_commands.specs.Copies.{AreFoldersAt, AreRequired};
 ghost use Rattle.eos_disk.specs.Paths.{manifest_path};
 ghost use Rattle.eos_commands.specs.InitRefusals.{RefusesMaking, RefusesInit};
+ghost use Rattle.eos_commands.specs.steps.Refused.{RefusesThere, RefusesManifest};
 ghost use Rattle.eos_commands.specs.Making.{IsManifestFor, IsManifestPlaced, wrote_line};
 ghost use Rattle.eos_text.specs.Writing.{WritesFront};
 
 use crate::copied::Logs;
 use crate::given::{Given, ends_given, read_apps, spec_of};
 use crate::init_fault::InitFault;
+use crate::lines::Said;
 use crate::manifest_writing::write_manifest;
-use crate::note::note_texts;
 use crate::noting::notes_on;
+use eos_base::{PartitionName, Sorted};
 use eos_disk::{Disk, DiskMut, manifest_path};
-use eos_evidence::{Spec, spec_text};
+use eos_evidence::{App, Apps, Spec, spec_text};
 use eos_text::{WriteFault, finish, push_text, push_value};
 use std::alloc::{AllocError, Global};
 use std::io::{Read, Write};
@@ -38,13 +42,21 @@ struct Manifest {
     notes: Vec<String>,
 }
 
+/// The partitions of a folder of copied logs.
+#[derive(Drop)]
+struct There {
+    /// Those that have a folder.
+    folders: Sorted<PartitionName>,
+    /// Those that have to have an end.
+    required: Sorted<PartitionName>,
+}
+
 /// Makes the manifest of a folder, which may not have one yet. What `-` names is read from the input.
 ///
 /// # Errors
 /// The first of what stands against it, in the order: the manifest is there, a word, the folder, the transaction log, the ends,
 /// a partition without an end, the parts, a log of which a note is told, the file. Nothing was written then, but where the system
 /// refused it a part of the text may stand beside the manifest's place.
-#[tactic(auto, using(crate::proofs::Placed::left_nothing, crate::proofs::Placed::left_there, crate::proofs::Placed::all_made, crate::proofs::InitRefused::there_first, crate::proofs::InitRefused::not_made, crate::proofs::InitRefused::not_put))]
 pub fn init<D: DiskMut, R: Read>(
     alloc: Global,
     disk: &mut D,
@@ -98,12 +110,36 @@ fn manifest_of<D: Disk, R: Read>(
         disk,
         folder: given.folder,
     };
+    let there = there_of(&logs, apps.as_slice())?;
+    let required = there.required.as_slice();
+    let said = ends_given(&logs, given.ends, required, &there.folders, input)?;
+    manifest_by(&logs, given.ends, apps, &there, &said)
+}
+
+/// The partitions that have a folder, and those that have to have an end.
+fn there_of<D: Disk>(logs: &Logs<'_, D>, apps: &[App]) -> Result<There, InitFault>
+    ensures ok { IfOk result (λ there. AreFoldersAt (D.holds logs.now.disk.now) logs.now.folder.now there.folders
+        × AreRequired (D.holds logs.now.disk.now) logs.now.folder.now apps.now there.folders there.required) }
+    ensures refused { IfErr result (RefusesThere (D.holds logs.now.disk.now) logs.now.folder.now apps.now) }
+{
     let folders = logs.folders()?;
-    let required = logs.required(apps.as_slice(), folders.as_slice())?;
-    let said = ends_given(&logs, given.ends, required.as_slice(), &folders, input)?;
-    let spec = spec_of(alloc, apps, &required, said.ends.as_slice())?;
-    let notes = notes_on(&logs, given.ends, &spec, &folders, &said)?;
-    let notes = note_texts(alloc, notes.as_slice())?;
+    let required = logs.required(apps, folders.as_slice())?;
+    Ok(There { folders, required })
+}
+
+/// The manifest of these applications, with the ends that were said, and what is to be told beside.
+fn manifest_by<D: Disk>(
+    logs: &Logs<'_, D>,
+    file: Option<&str>,
+    apps: Apps,
+    there: &There,
+    said: &Said,
+) -> Result<Manifest, InitFault>
+    ensures ok { IfOk result (λ manifest. (first_without said.now.ends.items there.now.required ≡ None) × (accepted (parts_for apps there.now.required said.now.ends.items) ≡ Ok manifest.spec)) }
+    ensures refused { IfErr result (RefusesManifest (D.holds logs.now.disk.now) logs.now.folder.now apps there.now.required said.now.ends.items) }
+{
+    let spec = spec_of(logs.alloc, apps, &there.required, said.ends.as_slice())?;
+    let notes = notes_on(logs, file, &spec, &there.folders, said)?;
     Ok(Manifest { spec, notes })
 }
 

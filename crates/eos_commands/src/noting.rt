@@ -10,7 +10,7 @@ ghost use Rattle.eos_commands.specs.declared.init_fault.InitFault.TheVariants.{O
 use crate::copied::Logs;
 use crate::init_fault::InitFault;
 use crate::lines::{Said, push_of_groups, push_of_lines};
-use crate::note::Note;
+use crate::note::{Note, note_texts};
 use eos_base::{PartitionName, Sorted};
 use eos_disk::Disk;
 use eos_evidence::{End, Spec};
@@ -23,7 +23,7 @@ pub(crate) fn notes_on<D: Disk>(
     spec: &Spec,
     folders: &Sorted<PartitionName>,
     said: &Said,
-) -> Result<Vec<Note>, InitFault>
+) -> Result<Vec<String>, InitFault>
     ensures { IfErr result (λ why. (why ≡ OutOfMemory) ⊎ ((e : AnEnd) × Has spec.now.ends e × RefusesBy (RefusesCopy (D.holds logs.now.disk.now) (path_of_end logs.now.folder.now e)) why)) }
 {
     let mut notes = Vec::new(logs.alloc);
@@ -40,7 +40,7 @@ pub(crate) fn notes_on<D: Disk>(
     if file.is_some() {
         push_of_groups(logs.alloc, &mut notes, apps.as_slice(), said, folders)?;
     }
-    Ok(notes)
+    Ok(note_texts(logs.alloc, notes.as_slice())?)
 }
 
 /// What `check` will refuse of a partition, as far as its folder and the head of its first segment show.

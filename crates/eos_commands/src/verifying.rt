@@ -1,6 +1,6 @@
 //! Comparing folds with the logs that they were made of, where these are at hand.
 
-ghost use Rattle.std.specs.Prelude.{◌≡◌, ◌≤◌, ◌<◌, ◌⊎◌, ◌++◌, ℕ, List, length, map, slice_get, None, Some, false, IfOk, IfSome, OnOk};
+ghost use Rattle.std.specs.Prelude.{◌≡◌, ◌≤◌, ◌<◌, ◌⊎◌, ◌++◌, ℕ, List, length, map, slice_get, None, Some, Ok, false, IfOk, IfSome, OnOk};
 ghost use Rattle.std.specs.Io.KnownBytes.{Consumes, IsAtEnd};
 ghost use Rattle.eos_base.specs.Members.{Has};
 ghost use Rattle.eos_disk.specs.Entries.{HasBytes, MayLackFile};
@@ -11,7 +11,7 @@ ghost use Rattle.eos_commits.specs.SourceTopics.{AreSourceTopics};
 ghost use Rattle.eos_commands.specs.Verifying.{IsFoldText, HasFold, IsOfFront, IsLike, HaveNone, IsFound, AreOfOne, AreFound, AreVerified};
 ghost use Rattle.eos_commands.specs.declared.found.Found.{Found};
 
-use crate::folding::refused;
+use crate::folding::{refused, text_of};
 use crate::found::{Found, Likeness};
 use bytes::Bytes;
 use eos_commits::source_topics;
@@ -20,7 +20,7 @@ use eos_disk::{
     read_shape, segment_path,
 };
 use eos_evidence::{ReadFault, Segment};
-use eos_fold_file::{FoldFault, decode_fold, encode_fold, fold_of};
+use eos_fold_file::{FoldFault, decode_fold, fold_of};
 use eos_reading::{Wanted, Wants};
 use std::alloc::{AllocError, Global};
 use std::io::Read;
@@ -35,7 +35,7 @@ pub struct Compared<'a> {
 }
 
 /// Where folds and logs stand, and the topics whose claims are kept by a number.
-#[derive(Clone, Copy)]
+#[derive(Drop)]
 struct Sides<'a, D> {
     disk: &'a D,
     folder: &'a str,
@@ -82,9 +82,22 @@ pub fn verify_folds<D: Disk>(
 {
     list_all(alloc, disk, given.logs)?;
     let shape = read_shape(alloc, disk, given.folder, &Unwatched)?;
-    let found = compare_shape(alloc, disk, given, &shape)?;
-    shape.listed?;
-    Ok(found)
+    let found = compare_shape(alloc, disk, given, &shape);
+    if_listed(shape.listed, found)
+}
+
+/// What was found, if nothing refused the listing.
+fn if_listed(
+    listed: Result<(), FolderFault>,
+    found: Result<Vec<Found>, FolderFault>,
+) -> Result<Vec<Found>, FolderFault>
+    ensures { IfOk result (λ all. (listed ≡ Ok tt) × (found ≡ Ok all)) }
+{
+    let all = found?;
+    match listed {
+        Ok(()) => Ok(all),
+        Err(fault) => Err(fault),
+    }
 }
 
 /// Lists these folders, so that one that isn't there is told.
@@ -112,8 +125,7 @@ fn compare_shape<D: Disk>(
         logs: given.logs,
         topics: topics.as_slice(),
     };
-    let found = places.compare_all(alloc, shape)?;
-    Ok(found)
+    places.compare_all(alloc, shape)
 }
 
 impl<'a, D: Disk> Sides<'a, D> {
@@ -210,7 +222,6 @@ impl<'a, D: Disk> Sides<'a, D> {
     }
 
     /// How this text is to the log in one of the folders.
-    #[tactic(auto, using(crate::proofs::Likenesses::is_right, crate::proofs::Likenesses::is_forged, crate::proofs::Likenesses::is_stale))]
     fn judge(
         &self,
         alloc: Global,
@@ -296,11 +307,8 @@ fn make_of<R: Read>(
     ensures end { OnOk result (IsAtEnd (R.remaining reader.new)) }
 {
     let fold = fold_of(alloc, asked.wanted, topics, asked.name, reader)?;
-    let text = encode_fold(alloc, &fold)?;
-    Ok(Made {
-        text,
-        bytes: fold.bytes,
-    })
+    let (text, bytes) = text_of(alloc, fold)?;
+    Ok(Made { text, bytes })
 }
 
 /// How many bytes the segment has by its fold, if these bytes are one.

@@ -12,8 +12,8 @@ loop-base-preserved g c =
     let holds = g.D.Disk.holds c.args.disk.now in
     let own : c.as_str.result.now ≡ string_bytes c.in_ok-path.path = search rules in
     let free = subst (λ (p : List ℕ). MayBeAbsent (holds p)) own (c.stands.ensures.free c.if-stands.false) in
-    unfolded_next holds c.args.out.now c.args.self.now bases i (pos 0) (to_z w64 (of_z w64 (get_or bases i (pos 0)))) c.in_ok-segment.field-0 (string_bytes c.in_ok-path.path) c.loop-base-test.true
-    (grind (arith, to_z-of_z)) (search rules) c.in_ok-path.ensures free c.loop-base.invariant
+    unfolded_next holds c.args.out.now c.args.self.now bases i (pos 0) (to_z w64 (of_z w64 (get_or bases i (pos 0)))) (string_bytes c.in_ok-path.path) c.loop-base-test.true
+    (grind (arith, to_z-of_z)) c.in_ok-path.ensures free c.loop-base.invariant
 
 pub returns-then-stands-clause-refused : goal.returns-then-stands-clause-refused
 returns-then-stands-clause-refused g c =
@@ -22,7 +22,7 @@ returns-then-stands-clause-refused g c =
     let holds = g.D.Disk.holds c.args.disk.now in
     let own : c.as_str.result.now ≡ string_bytes c.in_ok-path.path = search rules in
     let there = subst (λ (p : List ℕ). MayStand (holds p)) own (c.stands.ensures.there c.if-stands.true) in (
-      folded_to holds c.args.out.now c.args.self.now bases i (pos 0) (to_z w64 (of_z w64 (get_or bases i (pos 0)))) c.in_ok-segment.field-0 (string_bytes c.in_ok-path.path) c.loop-base-test.true
-          (grind (arith, to_z-of_z)) c.as_slice-base-items.ensures.value (search rules) c.in_ok-path.ensures there c.loop-base.invariant,
+      folded_to holds c.args.out.now c.args.self.now bases i (pos 0) (to_z w64 (of_z w64 (get_or bases i (pos 0)))) (string_bytes c.in_ok-path.path) c.loop-base-test.true
+          (grind (arith, to_z-of_z)) c.as_slice-base-items.ensures.value c.in_ok-path.ensures there c.loop-base.invariant,
       refl,
     )
