@@ -1,5 +1,5 @@
 #!/usr/bin/env -S python3 -B
-"""How many threads `check` starts, which only its speed depends on, and how many work at once: never more than there are workers.
+"""How many threads `check` and `explain` start, which only their speed depends on, and how many work at once: never more than there are workers.
 The caller does one share of each step itself, so a step in n shares starts n - 1, and with one worker none is started.
 
 With N workers, over P partitions, O of them of output topics, these are: those that draw pieces and read them, N; those that join them and
@@ -8,6 +8,9 @@ says no. Then M = N look at the lineage; but where the transaction log has a rec
 one reads it. The faults of single records are found in M shares or P, if these are fewer, the claims in as many shares as runs of O / M
 partitions, rounded up, make; where there are 4,096 claims or more, the sort of these, in at most M; and the source logs beside the claims,
 in at most M, which is one to three where there is one source partition.
+
+Where outputs are amiss, `explain` looks for all their faults, in as many ranges of their sources as there are workers where these are few: behind
+what `check` starts, N - 1.
 
 Without `--workers` there are four. Who asks `check_lineage` and names no number gets at most 64: tests/unproved.py asks that.
 
@@ -94,6 +97,23 @@ def check_runs(program, library):
             )
 
 
+def explain_runs(program, library):
+    """The same of `explain` beside `check`, where the group is another and each output is amiss."""
+    with tempfile.TemporaryDirectory() as made:
+        large(made)
+        with open(f"{made}/evidence.json") as file:
+            spec = json.load(file)
+        with open(f"{made}/evidence.json", "w") as file:
+            json.dump(dict(spec, group="h"), file)
+        for named in (None, 1, 2, 4, 8):
+            workers = named or 4
+            words = ["--workers", str(named)] if named else []
+            checked, before, _ = counted([program, "check", *words, made], library)
+            told, started, most = counted([program, "explain", *words, made], library)
+            right = (checked.returncode, told.returncode) == (1, 1) and started == before + workers - 1 and most <= workers - 1
+            yield right, f"explain, {workers} workers: {started} threads, {most} at once, where check starts {before}; {told.stdout[:200]}{told.stderr}"
+
+
 # Over so many partitions of outputs the lineage alone is asked for.
 LINEAGES = 1, OUTPUTS, 64, 65
 
@@ -122,7 +142,7 @@ def all_asked():
 def main():
     program, library = sys.argv[1:]
     passed = failed = 0
-    for right, text in check_runs(program, library):
+    for right, text in [*check_runs(program, library), *explain_runs(program, library)]:
         if right:
             passed += 1
         else:

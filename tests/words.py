@@ -55,6 +55,7 @@ TABLE = {
     "part": """
         eos_commits: take_part
         eos_explaining: parts_of
+        eos_faults: pass_part
         eos_kept: Part part
         eos_lineage: parts take_part
         eos_notes: count_part count_part_if

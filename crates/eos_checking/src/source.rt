@@ -23,7 +23,7 @@ use eos_check::{Fault, Verdict};
 use eos_evidence::Spec;
 use eos_notes::{Note, all_notes};
 use eos_source::Source;
-use eos_source_check::{By, Judged, Noted, Pieces, Unlisted, all_source_faults, judge_noted};
+use eos_source_check::{By, Crew, Judged, Noted, Pieces, Unlisted, all_source_faults, judge_noted};
 use eos_words::Demands;
 use std::alloc::{AllocError, Global};
 use std::slice;
@@ -203,8 +203,8 @@ pub fn answer_source<S: Source, T: Timed, R: Threads + Sync>(
 }
 
 /// All faults of what was judged.
-fn listed_of<S: Source>(
-    alloc: Global,
+fn listed_of<S: Source, R: Threads + Sync>(
+    crew: &Crew<'_, R>,
     pieces: &Pieces<'_, S>,
     judged: &Judged,
 ) -> Result<Vec<Fault>, Unlisted<S::Fault>>
@@ -212,14 +212,14 @@ fn listed_of<S: Source>(
     ensures earned { IfErr result (IsEarned (known_by (S.said pieces.now.source.now) (S.is_log pieces.now.source.now)) (S.outcomes pieces.now.source.now) pieces.now.shape.now.partitions judged.now.logs.faults.items) }
 {
     match judged.verdict {
-        Verdict::Yes(_) => Ok(Vec::new(alloc)),
-        Verdict::No(_) => all_source_faults(alloc, pieces.source, pieces.shape, &judged.logs),
+        Verdict::Yes(_) => Ok(Vec::new(crew.alloc)),
+        Verdict::No(_) => all_source_faults(crew, pieces, &judged.logs),
     }
 }
 
 /// What is told of what was judged, with all faults.
-fn all_told<S: Source, T: Timed>(
-    alloc: Global,
+fn all_told<S: Source, T: Timed, R: Threads + Sync>(
+    crew: &Crew<'_, R>,
     pieces: &Pieces<'_, S>,
     noted: &Noted,
     asked: &Asked<'_, T>,
@@ -230,15 +230,15 @@ fn all_told<S: Source, T: Timed>(
     ensures dated { IfOk result (λ answer. IsDated (known_by (S.said pieces.now.source.now) (S.is_log pieces.now.source.now)) pieces.now.shape.now.partitions asked.now.report answer.report) }
     ensures earned { IfErr result (IsEarned (known_by (S.said pieces.now.source.now) (S.is_log pieces.now.source.now)) (S.outcomes pieces.now.source.now) pieces.now.shape.now.partitions noted.now.judged.logs.faults.items) }
 {
-    let list = listed_of(alloc, pieces, &noted.judged)?;
+    let list = listed_of(crew, pieces, &noted.judged)?;
     let found = list.as_slice();
-    let dates = dates_if(alloc, pieces, found, asked.report)?;
+    let dates = dates_if(crew.alloc, pieces, found, asked.report)?;
     let faults = Faults {
         told: found,
         all: true,
         dates: &dates,
     };
-    let answer = told(alloc, pieces.shape.spec(), noted, faults, asked)?;
+    let answer = told(crew.alloc, pieces.shape.spec(), noted, faults, asked)?;
     Ok(answer)
 }
 
@@ -261,7 +261,12 @@ pub fn answer_all<S: Source, T: Timed, R: Threads + Sync>(
 {
     match judge_noted(alloc, rt, pieces.source, pieces.shape, by_of(asked)) {
         Ok(noted) => {
-            let answer = all_told(alloc, &pieces, &noted, asked)?;
+            let crew = Crew {
+                alloc,
+                rt,
+                workers: asked.workers,
+            };
+            let answer = all_told(&crew, &pieces, &noted, asked)?;
             Ok(answer)
         }
         Err(fault) => Err(Unlisted::Refused(fault)),

@@ -21,7 +21,7 @@ use crate::when::times_of_rows;
 use eos_base::Workers;
 use eos_picture::{Picture, Times, drawing_of, svg_text};
 use eos_source::Source;
-use eos_source_check::{Judged, Pieces, Unlisted, all_source_faults, judge_source};
+use eos_source_check::{Crew, Judged, Pieces, Unlisted, all_source_faults, judge_source};
 use eos_verdict::{Fault, Verdict, verdict_line};
 use std::alloc::{AllocError, Global};
 use std::thread::Threads;
@@ -71,7 +71,12 @@ pub(crate) fn answer_source<S: Source, R: Threads + Sync>(
     let workers = Workers::standard();
     match judge_source(alloc, threads, pieces.source, pieces.shape, workers) {
         Ok(judged) => {
-            let answer = answer_judged(alloc, pieces, &judged, wanted)?;
+            let crew = Crew {
+                alloc,
+                rt: threads,
+                workers,
+            };
+            let answer = answer_judged(&crew, pieces, &judged, wanted)?;
             Ok(answer)
         }
         Err(fault) => Err(Unlisted::Refused(fault)),
@@ -80,8 +85,8 @@ pub(crate) fn answer_source<S: Source, R: Threads + Sync>(
 
 /// Draws of what was judged what is wanted.
 #[tactic(auto, using(crate::proofs::JudgedAnswers::shown))]
-fn answer_judged<S: Source>(
-    alloc: Global,
+fn answer_judged<S: Source, R: Threads + Sync>(
+    crew: &Crew<'_, R>,
     pieces: Pieces<'_, S>,
     judged: &Judged,
     wanted: Wanted,
@@ -92,18 +97,18 @@ fn answer_judged<S: Source>(
     match wanted.fault {
         Some(number) => match &judged.verdict {
             Verdict::Yes(_) => Ok(Answer::TooFew(0)),
-            Verdict::No(_) => answer_numbered(alloc, pieces, judged, wanted, number),
+            Verdict::No(_) => answer_numbered(crew, pieces, judged, wanted, number),
         },
         None => {
-            let drawn = drawn_of(alloc, pieces, judged, &judged.verdict, wanted)?;
+            let drawn = drawn_of(crew.alloc, pieces, judged, &judged.verdict, wanted)?;
             Ok(Answer::Drawn(drawn))
         }
     }
 }
 
 /// The same of a no, around the fault of this number.
-fn answer_numbered<S: Source>(
-    alloc: Global,
+fn answer_numbered<S: Source, R: Threads + Sync>(
+    crew: &Crew<'_, R>,
     pieces: Pieces<'_, S>,
     judged: &Judged,
     wanted: Wanted,
@@ -115,16 +120,16 @@ fn answer_numbered<S: Source>(
     ensures refused { IfErr result (IsAfter (known_by (S.said pieces.entry.source.now) (S.is_log pieces.entry.source.now)) (S.outcomes pieces.entry.source.now) pieces.entry.shape.now.partitions judged.now (is_later wanted.fault)) }
 {
     if number > 1 {
-        return answer_later(alloc, pieces, judged, wanted, number);
+        return answer_later(crew, pieces, judged, wanted, number);
     }
-    let drawn = drawn_of(alloc, pieces, judged, &judged.verdict, wanted)?;
+    let drawn = drawn_of(crew.alloc, pieces, judged, &judged.verdict, wanted)?;
     Ok(Answer::Drawn(drawn))
 }
 
 /// The same around a later fault than the first. Of partitions that have faults by themselves the folds are read once more, one after the
 /// other.
-fn answer_later<S: Source>(
-    alloc: Global,
+fn answer_later<S: Source, R: Threads + Sync>(
+    crew: &Crew<'_, R>,
     pieces: Pieces<'_, S>,
     judged: &Judged,
     wanted: Wanted,
@@ -135,10 +140,10 @@ fn answer_later<S: Source>(
     ensures answer { IfOk result (IsAnswerBy (known_by (S.said pieces.entry.source.now) (S.is_log pieces.entry.source.now)) pieces.entry.shape.now judged.now wanted.fault wanted.around) }
     ensures refused { IfErr result (IsAfter (known_by (S.said pieces.entry.source.now) (S.is_log pieces.entry.source.now)) (S.outcomes pieces.entry.source.now) pieces.entry.shape.now.partitions judged.now (is_later wanted.fault)) }
 {
-    let faults = all_source_faults(alloc, pieces.source, pieces.shape, &judged.logs)?;
+    let faults = all_source_faults(crew, &pieces, &judged.logs)?;
     match later_of(faults, number) {
         Ok(verdict) => {
-            let drawn = drawn_of(alloc, pieces, judged, &verdict, wanted)?;
+            let drawn = drawn_of(crew.alloc, pieces, judged, &verdict, wanted)?;
             Ok(Answer::Drawn(drawn))
         }
         Err(count) => Ok(Answer::TooFew(count)),

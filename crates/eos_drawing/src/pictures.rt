@@ -21,7 +21,9 @@ use crate::answer::{Wanted, drawn_of};
 use eos_base::Workers;
 use eos_disk::{Disk, FolderFault, Shape, Watch, read_shape};
 use eos_source::{Folder, FolderSource, Source};
-use eos_source_check::{Judged, Pieces, Unlisted, all_source_faults, judge_source, refusal_of};
+use eos_source_check::{
+    Crew, Judged, Pieces, Unlisted, all_source_faults, judge_source, refusal_of,
+};
 use eos_verdict::{Fault, Verdict};
 use std::alloc::Global;
 use std::thread::Threads;
@@ -95,8 +97,8 @@ fn only_first<S: Source>(
 }
 
 /// Those of the first of all faults. Of partitions that have faults by themselves the folds are read once more, one after the other.
-fn of_list<S: Source>(
-    alloc: Global,
+fn of_list<S: Source, R: Threads + Sync>(
+    crew: &Crew<'_, R>,
     pieces: Pieces<'_, S>,
     judged: &Judged,
     most: usize,
@@ -105,16 +107,16 @@ fn of_list<S: Source>(
     ensures texts { IfOk result (λ texts. ArePicturesBy (known_by (S.said pieces.entry.source.now) (S.is_log pieces.entry.source.now)) pieces.entry.shape.now judged.now most (map string_bytes texts.items)) }
     ensures refused { IfErr result (IsAfter (known_by (S.said pieces.entry.source.now) (S.is_log pieces.entry.source.now)) (S.outcomes pieces.entry.source.now) pieces.entry.shape.now.partitions judged.now (is_later (Some most))) }
 {
-    let mut faults = all_source_faults(alloc, pieces.source, pieces.shape, &judged.logs)?;
+    let mut faults = all_source_faults(crew, &pieces, &judged.logs)?;
     faults.truncate(most);
-    let texts = texts_around(alloc, pieces, judged, faults)?;
+    let texts = texts_around(crew.alloc, pieces, judged, faults)?;
     Ok(texts)
 }
 
 /// The texts around the first faults of what was judged.
 #[tactic(auto, using(crate::proofs::FirstOnes::of_yes))]
-fn of_judged<S: Source>(
-    alloc: Global,
+fn of_judged<S: Source, R: Threads + Sync>(
+    crew: &Crew<'_, R>,
     pieces: Pieces<'_, S>,
     judged: &Judged,
     most: usize,
@@ -123,12 +125,12 @@ fn of_judged<S: Source>(
     ensures refused { IfErr result (IsAfter (known_by (S.said pieces.entry.source.now) (S.is_log pieces.entry.source.now)) (S.outcomes pieces.entry.source.now) pieces.entry.shape.now.partitions judged.now (is_later (Some most))) }
 {
     match judged.verdict {
-        Verdict::Yes(_) => Ok(Vec::new(alloc)),
+        Verdict::Yes(_) => Ok(Vec::new(crew.alloc)),
         Verdict::No(_) => {
             if most > 1 {
-                return of_list(alloc, pieces, judged, most);
+                return of_list(crew, pieces, judged, most);
             }
-            let texts = only_first(alloc, pieces, judged, most)?;
+            let texts = only_first(crew.alloc, pieces, judged, most)?;
             Ok(texts)
         }
     }
@@ -148,7 +150,12 @@ fn of_source<S: Source, R: Threads + Sync>(
 {
     match judge_source(alloc, threads, pieces.source, pieces.shape, first.workers) {
         Ok(judged) => {
-            let texts = of_judged(alloc, pieces, &judged, first.most)?;
+            let crew = Crew {
+                alloc,
+                rt: threads,
+                workers: first.workers,
+            };
+            let texts = of_judged(&crew, pieces, &judged, first.most)?;
             Ok(texts)
         }
         Err(fault) => Err(Unlisted::Refused(fault)),

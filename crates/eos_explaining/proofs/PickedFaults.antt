@@ -1,30 +1,31 @@
 -- Items of a list, so many from a place on, as they are passed one after the other.
-use Rattle.std.proofs.Common.{◌≡◌, ◌<◌, ◌≤◌, ℕ, zero, suc, List, [], ◌∷◌, ◌++◌, length, map, take, drop, refl, sym, ap, subst, ◌∙◌, append_assoc, arith, slice_get}
-use Rattle.std.proofs.lemmas.List.{append-nil}
+use Rattle.std.proofs.Common.{◌≡◌, ◌+◌, ◌<◌, ◌≤◌, ℕ, zero, suc, List, [], ◌∷◌, ◌++◌, length, map, take, drop, refl, sym, ap, subst, ◌∙◌, append_assoc, arith, inl, inr, slice_get}
+use Rattle.std.proofs.lemmas.Bool.{cases_lt}
+use Rattle.std.proofs.lemmas.List.{append-nil, drop-append-le, length-append, length-drop, map-append, take-append-le}
 use Rattle.eos_verdict.specs.declared.verdict.Fault.{Fault}
 use Rattle.eos_verdict.specs.declared.verdict.Verdict.{Verdict}
 use Rattle.eos_verdict.specs.declared.verdict.Verdict.TheVariants.{No}
-use Rattle.eos_faults.specs.Sinks.{TakesAll}
 use Rattle.eos_explaining.specs.declared.kinds.Picked.{Picked}
 use Rattle.eos_explaining.specs.steps.Counting.{IsPicked, IsPickedMore}
 
-drop_more : {X : Type 0} (k : ℕ) (xs : List X) (x : X) → k ≤ length xs → drop k (xs ++ x ∷ []) ≡ drop k xs ++ x ∷ []
-drop_more zero xs x le = refl
-drop_more (suc k) [] x le = absurd (omega (arith, le))
-drop_more (suc k) (y ∷ ys) x le = drop_more k ys x (omega (arith, le))
+-- ---- others of which none is held
 
-drop_all : {X : Type 0} (k : ℕ) (xs : List X) (x : X) → length xs < k → drop k (xs ++ x ∷ []) ≡ drop k xs
-drop_all zero xs x lt = absurd (omega (arith, lt))
-drop_all (suc zero) [] x lt = refl
-drop_all (suc (suc k)) [] x lt = refl
-drop_all (suc k) (y ∷ ys) x lt = drop_all k ys x (omega (arith, lt))
+drop_past : {X : Type 0} (k : ℕ) (xs : List X) → length xs ≤ k → drop k xs ≡ []
+drop_past zero [] le = refl
+drop_past zero (x ∷ xs) le = absurd (omega (arith, le))
+drop_past (suc k) [] le = refl
+drop_past (suc k) (x ∷ xs) le = drop_past k xs (omega (arith, le))
 
--- all of a list
-pub all_picked : (faults : List Fault) (told : List Verdict) (from to : Picked) → TakesAll IsPickedMore from faults to → IsPicked told from → (to.pick ≡ from.pick) × IsPicked (told ++ map No faults) to
-all_picked [] told from to t p = (ap (λ (x : Picked). x.pick) (sym t), subst (IsPicked (told ++ [])) t (subst (λ vs. IsPicked vs from) (sym (append-nil told)) p))
-all_picked (f ∷ fs) told from to t p =
-    let r = all_picked fs (told ++ No f ∷ []) t.0 to t.2 (t.1.picked told p) in
-    (r.0 ∙ t.1.pick, subst (λ vs. IsPicked vs to) (append_assoc told (No f ∷ []) (map No fs)) r.1)
+pub held_apart : (from most : ℕ) (told list : List Verdict) → (length told < from → length told + length list ≤ from) → (from ≤ length told → from + most ≤ length told)
+    → take most (drop from told) ≡ take most (drop from (told ++ list))
+held_apart from most told list before behind = elim (cases_lt (length told) from) [
+  | inl lt ↦
+      let whole = length-append told list in
+      ap (take most) (drop_past from told (omega (arith, lt)) ∙ sym (drop_past from (told ++ list) (omega (arith, whole, before lt))))
+  | inr ge ↦
+      let left = length-drop from told in
+      sym (ap (take most) (drop-append-le from told list ge) ∙ take-append-le most (drop from told) list (omega (arith, left, behind ge)))
+]
 
 pub picked_first : {X : Type 0} (k : ℕ) (xs : List X) → slice_get (take 1 (drop k xs)) 0 ≡ slice_get xs k
 picked_first zero [] = refl

@@ -2,6 +2,7 @@
 pub mod Tellings
 pub mod Found
 pub mod Counting
+pub mod Picking
 pub mod Kinds
 pub mod Again
 pub mod Untold

@@ -21,6 +21,7 @@ use crate::story::{About, story_of};
 use eos_base::Workers;
 use eos_check::Verdict;
 use eos_evidence::Spec;
+use eos_faults::Crew;
 use eos_notes::{Note, all_lines, all_notes};
 use eos_source::Source;
 use eos_source_check::{Judged, Pieces, Unlisted, all_faults, judge_source};
@@ -78,8 +79,8 @@ fn noted_lines(alloc: Global, spec: &Spec, judged: &Judged) -> Result<String, Al
 }
 
 /// What was found in the evidence that was judged, with the faults that are picked: all are counted, and no others are held.
-pub(crate) fn found_in<S: Source>(
-    alloc: Global,
+pub(crate) fn found_in<S: Source, R: Threads + Sync>(
+    crew: &Crew<'_, R>,
     pieces: &Pieces<'_, S>,
     judged: &Judged,
     pick: Pick,
@@ -87,16 +88,10 @@ pub(crate) fn found_in<S: Source>(
     ensures found { IfOk result (AreFoundBy (known_by (S.said pieces.now.source.now) (S.is_log pieces.now.source.now)) pieces.now.shape.now judged.now pick.from pick.most) }
     ensures earned { IfErr result (IsEarned (known_by (S.said pieces.now.source.now) (S.is_log pieces.now.source.now)) (S.outcomes pieces.now.source.now) pieces.now.shape.now.partitions judged.now.logs.faults.items) }
 {
-    let mut picked = Picked::new(alloc, pick);
-    all_faults(
-        alloc,
-        pieces.source,
-        pieces.shape,
-        &judged.logs,
-        &mut picked,
-    )?;
-    let line = line_of(alloc, &picked.counts)?;
-    let notes = noted(alloc, pieces.shape.spec(), judged)?;
+    let mut picked = Picked::new(crew.alloc, pick);
+    all_faults(crew, pieces, &judged.logs, &mut picked)?;
+    let line = line_of(crew.alloc, &picked.counts)?;
+    let notes = noted(crew.alloc, pieces.shape.spec(), judged)?;
     Ok(Findings {
         all: picked.counts.all,
         line,
@@ -155,8 +150,8 @@ fn told_of_number<S: Source>(
 }
 
 /// The answer where the verdict is no: the story of the fault of this number, or how many there are.
-fn told_no<S: Source>(
-    alloc: Global,
+fn told_no<S: Source, R: Threads + Sync>(
+    crew: &Crew<'_, R>,
     pieces: &Pieces<'_, S>,
     judged: Judged,
     asked: &Asked<'_>,
@@ -169,18 +164,18 @@ fn told_no<S: Source>(
         from: number.saturating_sub(1),
         most: 1,
     };
-    let found = found_in(alloc, pieces, &judged, pick)?;
+    let found = found_in(crew, pieces, &judged, pick)?;
     let count = found.all;
     if number == 0 || number > count {
         return Ok(Answer::Fewer(count));
     }
-    let story = told_of_number(alloc, pieces, judged, asked, &found)?;
+    let story = told_of_number(crew.alloc, pieces, judged, asked, &found)?;
     Ok(Answer::Story(story))
 }
 
 /// The answer of what was judged.
-fn answer_judged<S: Source>(
-    alloc: Global,
+fn answer_judged<S: Source, R: Threads + Sync>(
+    crew: &Crew<'_, R>,
     pieces: &Pieces<'_, S>,
     judged: Judged,
     asked: &Asked<'_>,
@@ -188,10 +183,10 @@ fn answer_judged<S: Source>(
     ensures answer { IfOk result (λ answer. HoldsByNamed (known_by (S.said pieces.now.source.now) (S.is_log pieces.now.source.now)) pieces.now.shape.now judged (λ e. IsAnswer asked.now.folder.now e asked.now.number answer)) }
     ensures refused { IfErr result (IsAfter (known_by (S.said pieces.now.source.now) (S.is_log pieces.now.source.now)) (S.outcomes pieces.now.source.now) pieces.now.shape.now.partitions judged) }
 {
-    match yes_of(alloc, pieces.shape.spec(), &judged)? {
+    match yes_of(crew.alloc, pieces.shape.spec(), &judged)? {
         Some(answer) => Ok(settled(answer, judged)),
         None => {
-            let answer = told_no(alloc, pieces, judged, asked)?;
+            let answer = told_no(crew, pieces, judged, asked)?;
             Ok(answer)
         }
     }
@@ -214,7 +209,12 @@ pub(crate) fn explain<S: Source, R: Threads + Sync>(
 {
     match judge_source(alloc, threads, pieces.source, pieces.shape, asked.workers) {
         Ok(judged) => {
-            let answer = answer_judged(alloc, &pieces, judged, asked)?;
+            let crew = Crew {
+                alloc,
+                rt: threads,
+                workers: asked.workers,
+            };
+            let answer = answer_judged(&crew, &pieces, judged, asked)?;
             Ok(answer)
         }
         Err(fault) => Err(Unlisted::Refused(fault)),

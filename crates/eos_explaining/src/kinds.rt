@@ -1,6 +1,6 @@
 //! How many faults of each kind there are: they are counted one after the other, and only those that are asked for are held.
 
-ghost use Rattle.std.specs.Prelude.{◌≡◌, ◌++◌, ◌∷◌, [], ℕ, List, Some, flat_map, cond, IfOk, OnOk, string_bytes};
+ghost use Rattle.std.specs.Prelude.{◌≡◌, ◌≤◌, ◌<◌, ◌+◌, ◌++◌, ◌∷◌, [], ℕ, List, Some, true, false, flat_map, cond, IfOk, OnOk, string_bytes};
 ghost use Rattle.std.specs.BTreeMap.{get};
 ghost use Rattle.std.specs.Ordering.{nat_cmp, is_eq};
 ghost use Rattle.eos_text.specs.Adding.{Adds};
@@ -13,7 +13,7 @@ ghost use Rattle.eos_verdict.specs.declared.verdict.Verdict.{Verdict as Named};
 ghost use Rattle.eos_verdict.specs.declared.verdict.Verdict.TheVariants.{No};
 ghost use Rattle.eos_faults.specs.OutputKinds.{IsOfKind};
 ghost use Rattle.eos_explaining.specs.steps.Kinds.{kind_line, kind_at, counts_text};
-ghost use Rattle.eos_explaining.specs.steps.Counting.{IsKindOf, HasKind, AreKinds, IsPicked, is_within};
+ghost use Rattle.eos_explaining.specs.steps.Counting.{IsKindOf, HasKind, AreKinds, IsPicked, is_within, joined};
 
 use eos_check::{Fault, Verdict};
 use eos_claims::OutputKind;
@@ -121,6 +121,55 @@ fn with_one(known: Option<KindCount>, kind: Kind) -> Result<KindCount, AllocErro
     }
 }
 
+/// The counts of a kind among these faults and among others.
+fn joined(
+    known: Option<KindCount>,
+    more: Option<KindCount>,
+) -> Result<Option<KindCount>, AllocError>
+    ensures { IfOk result (λ both. both ≡ joined known more) }
+{
+    let Some(known) = known else {
+        return Ok(more);
+    };
+    let Some(more) = more else {
+        return Ok(Some(known));
+    };
+    let count = known.count.checked_add(more.count).ok_or(AllocError)?;
+    Ok(Some(KindCount {
+        count,
+        phase: known.phase,
+        name: known.name,
+    }))
+}
+
+/// Puts those of the kind with this number among others with those that are there.
+fn join_kind(
+    kinds: &mut BTreeMap<u8, KindCount>,
+    number: u8,
+    more: Option<KindCount>,
+) -> Result<(), AllocError>
+    ensures here { OnOk result (get nat_cmp kinds.new number ≡ joined (get nat_cmp kinds.old number) more) }
+    ensures others { OnOk result ((n : ℕ) → is_eq (nat_cmp number n) ≡ false → get nat_cmp kinds.new n ≡ get nat_cmp kinds.old n) }
+{
+    match joined(counted_in(kinds, number), more)? {
+        None => Ok(()),
+        Some(count) => put_count(kinds, number, count),
+    }
+}
+
+/// Puts those of each kind among others with those that are there.
+fn join_kinds(
+    kinds: &mut BTreeMap<u8, KindCount>,
+    more: &BTreeMap<u8, KindCount>,
+) -> Result<(), AllocError>
+    ensures { OnOk result ((n : ℕ) → n < 13 → get nat_cmp kinds.new n ≡ joined (get nat_cmp kinds.old n) (get nat_cmp more.now n)) }
+{
+    for number in 0u8..13 {
+        join_kind(kinds, number, counted_in(more, number))?;
+    }
+    Ok(())
+}
+
 impl KindCounts {
     /// Of no fault.
     fn new(alloc: Global) -> KindCounts
@@ -139,6 +188,17 @@ impl KindCounts {
         let count = with_one(counted_in(&self.kinds, kind.number), kind)?;
         put_count(&mut self.kinds, kind.number, count)?;
         self.all = self.all.checked_add(1).ok_or(AllocError)?;
+        Ok(())
+    }
+}
+
+impl KindCounts {
+    /// With other faults, of which these are the counts.
+    fn join(&mut self, more: &KindCounts) -> Result<(), AllocError>
+        ensures { (told list : List Named) → AreKinds told self.old → AreKinds list more.now → OnOk result (AreKinds (told ++ list) self.new) }
+    {
+        join_kinds(&mut self.kinds, &more.kinds)?;
+        self.all = self.all.checked_add(more.all).ok_or(AllocError)?;
         Ok(())
     }
 }
@@ -163,12 +223,32 @@ impl Picked {
         let place = self.counts.all;
         place >= self.pick.from && place - self.pick.from < self.pick.most
     }
+
+    /// Whether none of the next faults is held, which are so many.
+    fn is_apart(&self, count: u64) -> bool
+        ensures before { result ≡ true → self.now.counts.all < self.now.pick.from → self.now.counts.all + count ≤ self.now.pick.from }
+        ensures behind { result ≡ true → self.now.pick.from ≤ self.now.counts.all → self.now.pick.from + self.now.pick.most ≤ self.now.counts.all }
+    {
+        let place = self.counts.all;
+        if place < self.pick.from {
+            return count <= self.pick.from - place;
+        }
+        place - self.pick.from >= self.pick.most
+    }
 }
 
 impl FaultSink for Picked {
-    ghost use Rattle.eos_explaining.specs.steps.Counting.{IsPickedMore};
+    ghost use Rattle.eos_explaining.specs.steps.Counting.{IsPickedMore, IsPicked};
+    ghost use Rattle.eos_explaining.specs.steps.Picking.{none_picked, both_picked};
 
     ghost takes = { IsPickedMore };
+
+    ghost is_share = { IsPicked [] };
+
+    /// It holds none.
+    fn share(alloc: Global) -> Picked {
+        Picked::new(alloc, Pick { from: 0, most: 0 })
+    }
 
     fn take(&mut self, fault: Fault) -> Result<(), AllocError> {
         let is_asked = self.is_asked();
@@ -189,6 +269,19 @@ impl FaultSink for Picked {
         }
         Ok(())
     }
+
+    /// Of a share it takes the counts, and wants each fault where it holds one of them.
+    fn join(&mut self, share: Picked) -> Result<bool, AllocError> {
+        if !self.is_apart(share.counts.all) {
+            return Ok(false);
+        }
+        self.counts.join(&share.counts)?;
+        Ok(true)
+    }
+
+    ghost takes_none = { none_picked };
+
+    ghost takes_both = { both_picked };
 }
 
 // ---- their line

@@ -24,6 +24,7 @@ use crate::story::{About, story_of};
 use eos_base::Workers;
 use eos_check::Verdict;
 use eos_disk::{Disk, FolderFault, Shape, Watch, read_shape};
+use eos_faults::Crew;
 use eos_sought::Folded;
 use eos_source::{Folder, FolderSource, Source};
 use eos_source_check::{Judged, Pieces, Unlisted, judge_source, refusal_of};
@@ -86,8 +87,8 @@ fn of_findings<S: Source>(
 }
 
 /// The stories of the first faults of what was judged.
-fn of_judged<S: Source>(
-    alloc: Global,
+fn of_judged<S: Source, R: Threads + Sync>(
+    crew: &Crew<'_, R>,
     pieces: &Pieces<'_, S>,
     judged: Judged,
     folder: &str,
@@ -97,8 +98,8 @@ fn of_judged<S: Source>(
     ensures refused { IfErr result (IsAfter (known_by (S.said pieces.now.source.now) (S.is_log pieces.now.source.now)) (S.outcomes pieces.now.source.now) pieces.now.shape.now.partitions judged) }
 {
     let pick = Pick { from: 0, most };
-    let found = found_in(alloc, pieces, &judged, pick)?;
-    let texts = of_findings(alloc, pieces, judged, folder, &found)?;
+    let found = found_in(crew, pieces, &judged, pick)?;
+    let texts = of_findings(crew.alloc, pieces, judged, folder, &found)?;
     Ok(texts)
 }
 
@@ -117,7 +118,12 @@ fn of_source<S: Source, R: Threads + Sync>(
 {
     match judge_source(alloc, threads, pieces.source, pieces.shape, first.workers) {
         Ok(judged) => {
-            let texts = of_judged(alloc, &pieces, judged, folder, first.most as u64)?;
+            let crew = Crew {
+                alloc,
+                rt: threads,
+                workers: first.workers,
+            };
+            let texts = of_judged(&crew, &pieces, judged, folder, first.most as u64)?;
             Ok(texts)
         }
         Err(fault) => Err(Unlisted::Refused(fault)),

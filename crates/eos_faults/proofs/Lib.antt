@@ -24,5 +24,7 @@ pub mod NextSource
 pub mod NumbersThere
 pub mod ShownClaims
 pub mod SinksTaken
+pub mod SharesTaken
 pub mod Restricted
 pub mod RangesJoined
+pub mod CutOffsets

@@ -1,11 +1,12 @@
 -- The lists of ranges that follow one another, joined, are the list of all their sources.
-use Rattle.std.proofs.Common.{◌≡◌, ◌++◌, ◌≤◌, ◌+◌, ℕ, arith, Bool, true, false, not, ◌&&◌, List, [], Option, Some, None, refl, sym, subst, ◌∙◌, inl, inr, ◌⊎◌}
+use Rattle.std.proofs.Common.{◌≡◌, ◌≢◌, ◌++◌, ◌≤◌, ◌<◌, ◌+◌, ℕ, zero, suc, arith, Bool, true, false, not, ◌&&◌, List, [], ◌∷◌, length, Option, Some, None, refl, sym, ap, subst, append_assoc, IsSorted, ◌∙◌, inl, inr, ◌⊎◌}
 use Rattle.std.specs.Prelude.{⊤, slice_get}
 use Rattle.std.specs.List.Sorted.{IsStrictlySortedBy}
 use Rattle.std.specs.Ordering.{is_lt}
 use Rattle.std.specs.declared.cmp.Ordering.{Ordering}
 use Rattle.std.specs.declared.cmp.Ordering.TheVariants.{Less, Equal, Greater}
 use Rattle.std.proofs.lemmas.Cmp.{tied_itself}
+use Rattle.std.proofs.lemmas.Option.{slice_get_past}
 use Rattle.eos_base.specs.Members.{Has}
 use Rattle.eos_base.proofs.Membership.{append_cases, append_left, append_right}
 use Rattle.eos_claims.specs.declared.place.Place.{Place}
@@ -15,12 +16,13 @@ use Rattle.eos_claims.specs.Faults.{place_cmp, fault_cmp}
 use Rattle.eos_claims.proofs.FaultOrder.{place_total}
 use Rattle.eos_commits.proofs.SpotFaults.{rises_append}
 use Rattle.eos_faults.specs.declared.lent.LentPlace.{LentPlace}
-use Rattle.eos_faults.specs.steps.BySource.{itself}
+use Rattle.eos_faults.specs.steps.BySource.{by_lent, itself}
 use Rattle.eos_faults.specs.steps.OutputFaultsGathered.{AreOutputFaults, HasEarlier}
 use Rattle.eos_faults.specs.steps.Plain.{place_at}
-use Rattle.eos_faults.specs.steps.Ranges.{is_below, is_done, is_before_end, is_within, AreFaultsWithin}
+use Rattle.eos_faults.specs.steps.Ranges.{bound_before, is_below, is_done, is_before_end, is_up_to, is_within, range_at, AreFaultsWithin}
+use Rattle.eos_faults.specs.steps.Shares.{LeadOn}
 use Rattle.eos_faults.proofs.BySource.{by_source_less}
-use Rattle.eos_faults.proofs.SourceEnds.{Rises, behind}
+use Rattle.eos_faults.proofs.SourceEnds.{Rises, behind, inputs_rise}
 
 -- ---- two lists
 
@@ -106,28 +108,76 @@ split from end p e = go (is_done from p) refl
     go true d = inl d
     go false d = inr (from_both (is_done from p) (is_before_end end p) d e)
 
-pub range_more : (a : Application) (from : Option LentPlace) (b : LentPlace) → IsUpTo from b → (xs ys : List OutputFault) → AreFaultsWithin (is_done from) a xs
-    → AreFaultsWithin (is_within (record { from = from; below = Some b })) a ys → AreFaultsWithin (is_done (Some b)) a (xs ++ ys)
-range_more a from b up = joined (is_done from) (is_within (record { from = from; below = Some b })) (is_done (Some b)) (record {
-  apart = λ p q d w. apart_from from p q d (both (is_done from q) (is_below b q) w).0;
-  first = done_further from b up;
-  second = λ p w. (both (is_done from p) (is_below b p) w).1;
-  cover = λ p w. split from (Some b) p w;
+-- where a range ends behind what is done
+abbrev pub IsUpToEnd : Option LentPlace → Option LentPlace → Type 0
+IsUpToEnd from None = ⊤
+IsUpToEnd from (Some b) = IsUpTo from b
+
+end_further : (from end : Option LentPlace) → IsUpToEnd from end → (p : Place) → is_done from p ≡ true → is_before_end end p ≡ true
+end_further from None up p e = refl
+end_further from (Some b) up p e = done_further from b up p e
+
+range_more : (a : Application) (from end : Option LentPlace) → IsUpToEnd from end → (xs ys : List OutputFault) → AreFaultsWithin (is_done from) a xs
+    → AreFaultsWithin (is_within (record { from = from; below = end })) a ys → AreFaultsWithin (is_before_end end) a (xs ++ ys)
+range_more a from end up = joined (is_done from) (is_within (record { from = from; below = end })) (is_before_end end) (record {
+  apart = λ p q d w. apart_from from p q d (both (is_done from q) (is_before_end end q) w).0;
+  first = end_further from end up;
+  second = λ p w. (both (is_done from p) (is_before_end end p) w).1;
+  cover = λ p w. split from end p w;
 }) a
 
-pub last_range : (a : Application) (from : Option LentPlace) (xs ys : List OutputFault) → AreFaultsWithin (is_done from) a xs → AreFaultsWithin (is_within (record { from = from; below = None })) a ys
-    → AreOutputFaults a (xs ++ ys)
-last_range a from xs ys before more = record { rises = all.rises; each = λ f h. (all.each f h).0; all = λ f st. all.all f st refl; one_missing = all.one_missing }
-  where
-    all : AreFaultsWithin (λ p. true) a (xs ++ ys)
-    all = joined (is_done from) (is_within (record { from = from; below = None })) (λ p. true) (record {
-      apart = λ p q d w. apart_from from p q d (both (is_done from q) true w).0;
-      first = λ p d. refl;
-      second = λ p w. refl;
-      cover = λ p w. split from None p refl;
-    }) a xs ys before more
+-- ---- between bounds that rise
 
-pub none_done : (a : Application) → AreFaultsWithin (is_done None) a []
+same_within : (P Q : Place → Bool) → ((p : Place) → P p ≡ Q p) → (a : Application) (list : List OutputFault) → AreFaultsWithin P a list → AreFaultsWithin Q a list
+same_within P Q same a list are = record {
+  rises = are.rises;
+  each = λ f h. let r = are.each f h in (r.0, sym (same f.source) ∙ r.1);
+  all = λ f st w. are.all f st (same f.source ∙ w);
+  one_missing = are.one_missing;
+}
+
+-- a range begins behind the one before it
+ups : (bounds : List LentPlace) → Rises itself bounds → (n : ℕ) → IsUpToEnd (bound_before bounds n) (slice_get bounds n)
+ups bounds rise zero = go (slice_get bounds zero)
+  where
+    go : (end : Option LentPlace) → IsUpToEnd None end
+    go None = tt
+    go (Some b) = tt
+ups bounds rise (suc m) = go (slice_get bounds m) (slice_get bounds (suc m)) refl refl
+  where
+    go : (from end : Option LentPlace) → slice_get bounds m ≡ from → slice_get bounds (suc m) ≡ end → IsUpToEnd from end
+    go None None e f = tt
+    go (Some x) None e f = tt
+    go None (Some b) e f = tt
+    go (Some x) (Some b) e f = rise m (suc m) x b (omega arith) e f
+
+up_to_is : (bounds : List LentPlace) (n : ℕ) → n ≤ length bounds → (p : Place) → is_up_to bounds n p ≡ is_done (bound_before bounds n) p
+up_to_is bounds zero le p = refl
+up_to_is bounds (suc m) le p = go (slice_get bounds m) (there bounds m (omega (arith, le)))
+  where
+    there : (xs : List LentPlace) (k : ℕ) → k < length xs → slice_get xs k ≢ None
+    there [] k lt = absurd (omega (arith, lt))
+    there (x ∷ xs) zero lt = λ e. cc
+    there (x ∷ xs) (suc k) lt = there xs k (omega (arith, lt))
+
+    go : (o : Option LentPlace) → o ≢ None → is_before_end o p ≡ is_done o p
+    go None e = absurd (e refl)
+    go (Some b) e = refl
+
+after_is : (bounds : List LentPlace) (n : ℕ) (p : Place) → is_before_end (slice_get bounds n) p ≡ is_up_to bounds (n + 1) p
+after_is bounds n p = let next : suc n ≡ n + 1 = omega arith in subst (λ k. is_before_end (slice_get bounds n) p ≡ is_up_to bounds k p) next refl
+
+-- the faults of one range, behind those of the ranges before it
+pub range_next : (a : Application) (bounds : List LentPlace) → IsSorted by_lent bounds → (n : ℕ) → n ≤ length bounds → (list : List OutputFault) → AreFaultsWithin (is_within (range_at bounds n)) a list → LeadOn a bounds n (n + 1) list
+range_next a bounds sorted n le list here before done =
+    same_within (is_before_end (slice_get bounds n)) (is_up_to bounds (n + 1)) (after_is bounds n) a (before ++ list)
+    (range_more a (bound_before bounds n) (slice_get bounds n) (ups bounds (inputs_rise bounds sorted) n) before list (same_within (is_up_to bounds n) (is_done (bound_before bounds n)) (up_to_is bounds n le) a before done) here)
+
+pub next_joined : (a : Application) (bounds : List LentPlace) (i j k : ℕ) (xs ys : List OutputFault) → LeadOn a bounds i j xs → LeadOn a bounds j k ys → LeadOn a bounds i k (xs ++ ys)
+next_joined a bounds i j k xs ys first second before done =
+    subst (AreFaultsWithin (is_up_to bounds k) a) (append_assoc before xs ys) (second (before ++ xs) (first before done))
+
+none_done : (a : Application) → AreFaultsWithin (λ p. false) a []
 unfolding IsStrictlySortedBy
 none_done a = record {
   rises = tt;
@@ -136,14 +186,12 @@ none_done a = record {
   one_missing = λ f g h. absurd h;
 }
 
--- ---- bounds in their order
+-- those of all ranges
+pub all_ranges : (a : Application) (bounds : List LentPlace) (n : ℕ) → n ≡ length bounds + 1 → (list : List OutputFault) → LeadOn a bounds 0 n list → AreOutputFaults a list
+all_ranges a bounds n is list leads = record { rises = all.rises; each = λ f h. (all.each f h).0; all = λ f st. all.all f st refl; one_missing = all.one_missing }
+  where
+    ended : (p : Place) → is_up_to bounds (length bounds + 1) p ≡ true
+    ended p = sym (after_is bounds (length bounds) p) ∙ ap (λ o. is_before_end o p) (slice_get_past bounds (length bounds) (omega arith))
 
--- none of the bounds from here on is before what is done
-abbrev pub AreAhead : Option LentPlace → List LentPlace → ℕ → Type 0
-AreAhead from bounds k = (j : ℕ) (b : LentPlace) → k ≤ j → slice_get bounds j ≡ Some b → IsUpTo from b
-
-pub none_ahead : (bounds : List LentPlace) (k : ℕ) → AreAhead None bounds k
-none_ahead bounds k j b le at = tt
-
-pub ahead_more : (bounds : List LentPlace) → Rises itself bounds → (k : ℕ) (b : LentPlace) → slice_get bounds k ≡ Some b → AreAhead (Some b) bounds (k + 1)
-ahead_more bounds rise k b at j c le there = rise k j b c (omega (arith, le)) at there
+    all : AreFaultsWithin (λ p. true) a list
+    all = same_within (is_up_to bounds (length bounds + 1)) (λ p. true) ended a list (subst (λ k. AreFaultsWithin (is_up_to bounds k) a list) is (leads [] (none_done a)))

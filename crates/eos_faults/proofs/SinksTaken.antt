@@ -1,19 +1,8 @@
--- What a sink is after more faults.
-use Rattle.std.proofs.Common.{◌≡◌, ◌∙◌, List, [], ◌∷◌, ◌++◌, refl, sym, ap, subst, append_assoc}
-use Rattle.std.proofs.lemmas.List.{append-nil}
-use Rattle.eos_faults.specs.Sinks.{TakesAll}
+-- What a sink is after one more of a list's faults.
+use Rattle.std.proofs.Common.{List, [], ◌∷◌, ◌++◌, map, sym, subst}
+use Rattle.std.proofs.lemmas.List.{map-append}
 
-pub nothing_taken : {S X : Type 0} (takes : S → X → S → Type 0) (s : S) → TakesAll takes s [] s
-nothing_taken takes s = refl
-
-pub takes_joined : {S X : Type 0} (takes : S → X → S → Type 0) (xs ys : List X) (from mid to : S) → TakesAll takes from xs mid → TakesAll takes mid ys to → TakesAll takes from (xs ++ ys) to
-takes_joined takes [] ys from mid to a b = subst (λ s. TakesAll takes s ys to) (sym a) b
-takes_joined takes (x ∷ xs) ys from mid to a b = (a.0, a.1, takes_joined takes xs ys a.0 mid to a.2 b)
-
-pub takes_more : {S X : Type 0} (takes : S → X → S → Type 0) (xs : List X) (x : X) (from mid to : S) → TakesAll takes from xs mid → takes mid x to → TakesAll takes from (xs ++ x ∷ []) to
-takes_more takes xs x from mid to a b = takes_joined takes xs (x ∷ []) from mid to a (to, b, refl)
-
--- what holds its items
-pub vec_takes : {V X : Type 0} (items : V → List X) (xs : List X) (from to : V) → TakesAll (λ old x new. items new ≡ items old ++ x ∷ []) from xs to → items to ≡ items from ++ xs
-vec_takes items [] from to t = ap items (sym t) ∙ sym (append-nil (items from))
-vec_takes items (x ∷ xs) from to t = vec_takes items xs t.0 to t.2 ∙ (ap (λ ys. ys ++ xs) t.1 ∙ append_assoc (items from) (x ∷ []) xs)
+pub taken_more : {S X Y : Type 0} (takes : S → List Y → S → Type 0) → ((a b c : S) (xs ys : List Y) → takes a xs b → takes b ys c → takes a (xs ++ ys) c)
+    → (f : X → Y) (xs : List X) (x : X) (from mid to : S) → takes from (map f xs) mid → takes mid (f x ∷ []) to → takes from (map f (xs ++ x ∷ [])) to
+taken_more {Y = Y} takes both f xs x from mid to so_far step =
+    subst (λ (ys : List Y). takes from ys to) (sym (map-append f xs (x ∷ []))) (both from mid to (map f xs) (f x ∷ []) so_far step)

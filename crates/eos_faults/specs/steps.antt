@@ -8,3 +8,5 @@ pub mod Walks
 pub mod BySource
 pub mod SourceClaims
 pub mod Ranges
+pub mod Cuts
+pub mod Shares

@@ -4,11 +4,10 @@ ghost use Rattle.std.specs.Prelude.{◌≤◌, length, map, option_map, List, On
 ghost use Rattle.eos_claims.specs.declared.fault.OutputFault.{OutputFault};
 ghost use Rattle.eos_claims.specs.Outputs.{Application, ReadsSources};
 ghost use Rattle.eos_verdict.specs.declared.verdict.Fault.TheVariants.{Lineage};
-ghost use Rattle.eos_faults.specs.Sinks.{TakesAll};
 ghost use Rattle.eos_faults.specs.steps.BySource.{IsEndOf, IsNext, itself, source_of, by_lent};
 ghost use Rattle.eos_faults.specs.steps.OutputFaultsGathered.{AreOutputFaults};
 ghost use Rattle.eos_faults.specs.steps.Tables.{AreTables, by_claim};
-ghost use Rattle.eos_faults.specs.steps.Taken.{in_group, named_in};
+ghost use Rattle.eos_faults.specs.steps.Taken.{group_in, named_faults, named_in};
 
 use crate::lent::{LentFault, LentPlace, VisibleClaim};
 use crate::outputs::LentOutput;
@@ -80,7 +79,7 @@ fn hand_on<'a, S: FaultSink>(
     faults: Vec<LentFault<'a>>,
     sink: &mut S,
 ) -> Result<(), AllocError>
-    ensures { OnOk result (TakesAll S.takes sink.old (map Lineage (map (named_in (option_map (λ g. g.now) group.entry)) faults.entry.items)) sink.new) }
+    ensures { OnOk result (S.takes sink.old (map Lineage (map (named_in (option_map (λ g. g.now) group.entry)) faults.entry.items)) sink.new) }
 {
     for fault in faults {
         let output = LentOutput::new(group, fault);
@@ -93,11 +92,10 @@ fn hand_on<'a, S: FaultSink>(
 /// input lacks it has the first. In memory are the faults of one source.
 pub(crate) fn faults_by_source<'a, S: FaultSink>(
     alloc: Global,
-    group: Option<&'a GroupId>,
     tables: &Tables<'_, 'a>,
     sink: &mut S,
 ) -> Result<(), AllocError>
-    ensures { OnOk result ((list : List OutputFault) × TakesAll S.takes sink.old (map Lineage (map (in_group (option_map (λ g. g.now) group.entry)) list)) sink.new
+    ensures { OnOk result ((list : List OutputFault) × S.takes sink.old (named_faults (group_in tables.now.books.now) list) sink.new
         × ((a : Application) → ReadsSources a → AreTables a tables.now → AreOutputFaults a list)) }
 {
     let claims = tables.claims.as_slice();
@@ -110,7 +108,7 @@ pub(crate) fn faults_by_source<'a, S: FaultSink>(
         let mine = &claims[claim..last_claim];
         let read = &inputs[input..last_input];
         let faults = found(alloc, tables, &source, mine, read)?;
-        hand_on(alloc, group, distinct_in_order(faults), sink)?;
+        hand_on(alloc, tables.books.group, distinct_in_order(faults), sink)?;
         claim = last_claim;
         input = last_input;
     }

@@ -1,12 +1,15 @@
 //! The visible records of an application's topics: its inputs, and the claims that its outputs make, of a range of sources.
 
-ghost use Rattle.std.specs.Prelude.{◌≡◌, ◌++◌, map, filter, flat_map, option_map, IfOk, OnOk};
+ghost use Rattle.std.specs.Prelude.{◌≡◌, ◌++◌, Bool, map, filter, flat_map, option_map, IfOk, OnOk};
+ghost use Rattle.eos_claims.specs.declared.place.Place.{Place};
 ghost use Rattle.eos_fold.specs.Parts.{part_name};
 ghost use Rattle.eos_lineage.specs.steps.Walks.{input_at, inputs_at, claim_at as claims_of_item, claims_of_part};
 ghost use Rattle.eos_faults.specs.steps.Claimed.{claimed};
 ghost use Rattle.eos_faults.specs.steps.Plain.{claim_at, name_at, place_at};
+ghost use Rattle.eos_faults.specs.steps.Cuts.{IsCutOf, IsNear};
 ghost use Rattle.eos_faults.specs.steps.Ranges.{is_source_within, is_within, listed};
 
+use crate::cuts::{Cut, Near, cut_of};
 use crate::lent::{LentName, LentPlace, VisibleClaim};
 use crate::ranges::Range;
 use eos_claims::ClaimRef;
@@ -24,7 +27,7 @@ pub(crate) fn name_of<'a>(part: &'a Part) -> LentName<'a>
 }
 
 /// The place of a record, if it is visible.
-pub(crate) fn input_of<'a>(partition: LentName<'a>, item: &ItemRef<'_>) -> Option<LentPlace<'a>>
+fn input_of<'a>(partition: LentName<'a>, item: &ItemRef<'_>) -> Option<LentPlace<'a>>
     ensures { listed (option_map place_at result) ≡ input_at (name_at partition.entry) item.now }
 {
     if !is_visible(item.fate()) {
@@ -36,19 +39,20 @@ pub(crate) fn input_of<'a>(partition: LentName<'a>, item: &ItemRef<'_>) -> Optio
     })
 }
 
-/// Puts the place of a record at the end, if it is visible and in the range.
+/// Puts the place of a record at the end, if it is visible and one of these offsets.
 fn push_input<'a>(
     all: &mut Vec<LentPlace<'a>>,
-    range: &Range<'_>,
+    cut: &Cut,
     partition: LentName<'a>,
     item: &ItemRef<'_>,
 ) -> Result<(), AllocError>
-    ensures { OnOk result (map place_at all.new.items ≡ map place_at all.old.items ++ filter (is_within range.now) (input_at (name_at partition.entry) item.now)) }
+    ensures { (within : Place → Bool) → IsCutOf within (name_at partition.entry) cut.now
+        → OnOk result (map place_at all.new.items ≡ map place_at all.old.items ++ filter within (input_at (name_at partition.entry) item.now)) }
 {
     let Some(input) = input_of(partition, item) else {
         return Ok(());
     };
-    if range.has(&input) {
+    if cut.has(input.offset) {
         all.push(input)?;
     }
     Ok(())
@@ -67,9 +71,13 @@ fn push_inputs<'a>(
         return Ok(());
     }
     let name = name_of(part);
+    let cut = cut_of(range, &name);
+    if cut.from.is_none() {
+        return Ok(());
+    }
     let mut records = part.items().cursor();
     while let Some(item) = records.next() {
-        push_input(all, range, name, &item)?;
+        push_input(all, &cut, name, &item)?;
     }
     Ok(())
 }
@@ -113,7 +121,7 @@ fn visible_claim<'a>(
 }
 
 /// The claim of a record, if it is visible and one.
-pub(crate) fn claim_of<'a>(partition: LentName<'a>, item: ItemRef<'a>) -> Option<VisibleClaim<'a>>
+fn claim_of<'a>(partition: LentName<'a>, item: ItemRef<'a>) -> Option<VisibleClaim<'a>>
     ensures { listed (option_map claim_at result) ≡ claims_of_item (name_at partition.entry) item.entry }
 {
     if !is_visible(item.fate()) {
@@ -131,16 +139,18 @@ pub(crate) fn claim_of<'a>(partition: LentName<'a>, item: ItemRef<'a>) -> Option
 /// Puts the claim of a record at the end, if it is visible and one, and its source in the range.
 fn push_claim<'a>(
     all: &mut Vec<VisibleClaim<'a>>,
-    range: &Range<'_>,
+    range: &Range<'a>,
+    near: &mut Near<'a>,
     partition: LentName<'a>,
     item: ItemRef<'a>,
 ) -> Result<(), AllocError>
-    ensures { OnOk result (map claim_at all.new.items ≡ map claim_at all.old.items ++ filter (is_source_within range.now) (claims_of_item (name_at partition.entry) item.entry)) }
+    ensures claims { IsNear range.now near.old → OnOk result (map claim_at all.new.items ≡ map claim_at all.old.items ++ filter (is_source_within range.now) (claims_of_item (name_at partition.entry) item.entry)) }
+    ensures near { IsNear range.now near.old → IsNear range.now near.new }
 {
     let Some(claim) = claim_of(partition, item) else {
         return Ok(());
     };
-    if range.has(&claim.source) {
+    if near.has(range, &claim.source) {
         all.push(claim)?;
     }
     Ok(())
@@ -150,7 +160,7 @@ fn push_claim<'a>(
 fn push_claims<'a>(
     all: &mut Vec<VisibleClaim<'a>>,
     outputs: &TopicSet<'_>,
-    range: &Range<'_>,
+    range: &Range<'a>,
     part: &'a Part,
 ) -> Result<(), AllocError>
     ensures { OnOk result (map claim_at all.new.items ≡ map claim_at all.old.items ++ filter (is_source_within range.now) (claims_of_part outputs.now part.now)) }
@@ -159,9 +169,10 @@ fn push_claims<'a>(
         return Ok(());
     }
     let name = name_of(part);
+    let mut near = Near::new(range, name);
     let mut records = part.items().cursor();
     while let Some(item) = records.next() {
-        push_claim(all, range, name, item)?;
+        push_claim(all, range, &mut near, name, item)?;
     }
     Ok(())
 }
@@ -170,7 +181,7 @@ fn push_claims<'a>(
 pub(crate) fn claims_of<'a>(
     alloc: Global,
     outputs: &TopicSet<'_>,
-    range: &Range<'_>,
+    range: &Range<'a>,
     parts: &'a [Part],
 ) -> Result<Vec<VisibleClaim<'a>>, AllocError>
     ensures { IfOk result (λ all. map claim_at all.items ≡ filter (is_source_within range.now) (flat_map (claims_of_part outputs.now) parts.now)) }

@@ -10,6 +10,7 @@ use crate::commits::{Offset, Offsets, Reached, offset_in, pass_key, reach_in};
 use crate::lent::{LentPlace, VisibleClaim};
 use eos_base::Sorted;
 use eos_commits::TopicSet;
+use eos_evidence::GroupId;
 use eos_kept::Part;
 
 /// What an application reads, commits and writes, and the logs.
@@ -20,6 +21,8 @@ pub(crate) struct Books<'a> {
     pub outputs: TopicSet<'a>,
     pub offsets: Offsets<'a>,
     pub reached: Reached<'a>,
+    /// The group that its faults name.
+    pub group: Option<&'a GroupId>,
     pub parts: &'a [Part],
 }
 

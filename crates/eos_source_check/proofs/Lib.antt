@@ -29,4 +29,3 @@ pub mod RisingTimes
 pub mod EachTimes
 pub mod FoldersRefused
 pub mod FoldersRead
-pub mod TakenMore

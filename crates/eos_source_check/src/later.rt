@@ -6,20 +6,22 @@ ghost use Rattle.eos_commits.specs.Faults.{AreInOrder};
 ghost use Rattle.eos_verdict.specs.declared.lineage_fault.LineageFault.TheVariants.{Record};
 ghost use Rattle.eos_verdict.specs.declared.verdict.Fault.TheVariants.{Log, Match, Lineage};
 ghost use Rattle.eos_check.specs.Verdicts.{StandsInLog, StandsInMatching};
-ghost use Rattle.eos_faults.specs.Sinks.{TakesAll, TakesList};
+ghost use Rattle.eos_faults.specs.Sinks.{TakesList};
 ghost use Rattle.eos_source_check.specs.LaterFaults.{AreLaterFaults};
 
 use eos_check::Fault;
 use eos_commits::{VisibleFault, all_record_faults};
 use eos_evidence::Spec;
-use eos_faults::{FaultSink, output_faults};
+use eos_faults::{Crew, FaultSink, output_faults};
 use eos_kept::{Logs, Part};
 use eos_lineage::LineageFault;
 use eos_table::{LogFault, MatchFault, all_log_faults, all_match_faults};
-use std::alloc::{AllocError, Global};
+use std::alloc::AllocError;
+use std::marker::Send;
+use std::thread::Threads;
 
 fn take_log<S: FaultSink>(faults: Vec<LogFault>, sink: &mut S) -> Result<(), AllocError>
-    ensures { OnOk result (TakesAll S.takes sink.old (map Log faults.items) sink.new) }
+    ensures { OnOk result (S.takes sink.old (map Log faults.items) sink.new) }
 {
     for fault in faults {
         sink.take(Fault::Log(fault))?;
@@ -28,7 +30,7 @@ fn take_log<S: FaultSink>(faults: Vec<LogFault>, sink: &mut S) -> Result<(), All
 }
 
 fn take_matching<S: FaultSink>(faults: Vec<MatchFault>, sink: &mut S) -> Result<(), AllocError>
-    ensures { OnOk result (TakesAll S.takes sink.old (map Match faults.items) sink.new) }
+    ensures { OnOk result (S.takes sink.old (map Match faults.items) sink.new) }
 {
     for fault in faults {
         sink.take(Fault::Match(fault))?;
@@ -37,7 +39,7 @@ fn take_matching<S: FaultSink>(faults: Vec<MatchFault>, sink: &mut S) -> Result<
 }
 
 fn take_records<S: FaultSink>(faults: Vec<VisibleFault>, sink: &mut S) -> Result<(), AllocError>
-    ensures { OnOk result (TakesAll S.takes sink.old (map Lineage (map Record faults.items)) sink.new) }
+    ensures { OnOk result (S.takes sink.old (map Lineage (map Record faults.items)) sink.new) }
 {
     for fault in faults {
         sink.take(Fault::Lineage(LineageFault::Record(fault)))?;
@@ -46,8 +48,8 @@ fn take_records<S: FaultSink>(faults: Vec<VisibleFault>, sink: &mut S) -> Result
 }
 
 /// Where neither the transaction log nor the matching has a fault: those of the fourth phase, or else of the fifth.
-fn after_matching<S: FaultSink>(
-    alloc: Global,
+fn after_matching<R: Threads + Sync, S: FaultSink + Send>(
+    crew: &Crew<'_, R>,
     spec: &Spec,
     logs: &[Part],
     sink: &mut S,
@@ -55,9 +57,9 @@ fn after_matching<S: FaultSink>(
     ensures { OnOk result (TakesList S.takes sink.old (λ list. AreInOrder logs.now → NoneStands (StandsInLog logs.now) → NoneStands (StandsInMatching logs.now)
         → AreLaterFaults spec.now.apps logs.now list) sink.new) }
 {
-    let faults = all_record_faults(alloc, spec.apps().as_slice(), logs)?;
+    let faults = all_record_faults(crew.alloc, spec.apps().as_slice(), logs)?;
     if faults.is_empty() {
-        output_faults(alloc, spec, logs, sink)?;
+        output_faults(crew, spec, logs, sink)?;
         return Ok(());
     }
     take_records(faults, sink)?;
@@ -65,17 +67,17 @@ fn after_matching<S: FaultSink>(
 }
 
 /// Where the transaction log has no fault.
-fn after_log<S: FaultSink>(
-    alloc: Global,
+fn after_log<R: Threads + Sync, S: FaultSink + Send>(
+    crew: &Crew<'_, R>,
     spec: &Spec,
     logs: &[Part],
     sink: &mut S,
 ) -> Result<(), AllocError>
     ensures { OnOk result (TakesList S.takes sink.old (λ list. AreInOrder logs.now → NoneStands (StandsInLog logs.now) → AreLaterFaults spec.now.apps logs.now list) sink.new) }
 {
-    let faults = all_match_faults(alloc, logs)?;
+    let faults = all_match_faults(crew.alloc, logs)?;
     if faults.is_empty() {
-        after_matching(alloc, spec, logs, sink)?;
+        after_matching(crew, spec, logs, sink)?;
         return Ok(());
     }
     take_matching(faults, sink)?;
@@ -87,13 +89,13 @@ fn after_log<S: FaultSink>(
 /// phases that has one. Where no partition of an evidence has a fault by itself, they are all faults of the evidence, over its logs or
 /// over what is kept of them (`laws::later`).
 ///
-/// The work is that of the check by one thread, and a sort of what is found; the memory is that of the check, and of the faults of
-/// one phase, but for those of outputs, which are handed on as they are found.
+/// The work is that of the check by one thread, and a sort of what is found, but for the faults of outputs, which threads look for; the
+/// memory is that of the check, and of the faults of one phase, but for those of outputs, which are handed on as they are found.
 ///
 /// # Errors
 /// Only want of memory, here or in the sink, which may have taken some.
-pub fn later_faults<S: FaultSink>(
-    alloc: Global,
+pub fn later_faults<R: Threads + Sync, S: FaultSink + Send>(
+    crew: &Crew<'_, R>,
     spec: &Spec,
     logs: &Logs,
     sink: &mut S,
@@ -101,9 +103,9 @@ pub fn later_faults<S: FaultSink>(
     ensures { OnOk result (TakesList S.takes sink.old (λ list. AreInOrder logs.now.parts.items → AreLaterFaults spec.now.apps logs.now.parts.items list) sink.new) }
 {
     let logs = logs.parts.as_slice();
-    let faults = all_log_faults(alloc, logs)?;
+    let faults = all_log_faults(crew.alloc, logs)?;
     if faults.is_empty() {
-        after_log(alloc, spec, logs, sink)?;
+        after_log(crew, spec, logs, sink)?;
         return Ok(());
     }
     take_log(faults, sink)?;

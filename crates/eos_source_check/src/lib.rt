@@ -31,6 +31,7 @@ mod times;
 mod timing;
 
 pub use again::folds_again;
+pub use eos_faults::Crew;
 pub use fault::Unlisted;
 pub use judged::{Judged, Noted, judge_noted, judge_source};
 pub use later::later_faults;

@@ -4,7 +4,7 @@ ghost use Rattle.std.specs.Prelude.{◌≡◌, length, map, take, slice_get, IfO
 ghost use Rattle.eos_verdict.specs.declared.verdict.Fault.TheVariants.{Partition as InPartition};
 ghost use Rattle.eos_kept.specs.Faults.{first_of};
 ghost use Rattle.eos_source.specs.Said.{known_by};
-ghost use Rattle.eos_faults.specs.Sinks.{TakesAll, TakesList};
+ghost use Rattle.eos_faults.specs.Sinks.{TakesList};
 ghost use Rattle.eos_source_check.specs.Listed.{IsListOf, BeginsAsFound};
 ghost use Rattle.eos_source_check.specs.Refusals.{IsNoLog, IsEarned};
 ghost use Rattle.eos_source_check.specs.steps.FaultsAgain.{AreListedAgain};
@@ -12,13 +12,16 @@ ghost use Rattle.eos_source_check.specs.steps.FaultsAgain.{AreListedAgain};
 use crate::again::faults_if_found;
 use crate::fault::Unlisted;
 use crate::later::later_faults;
+use crate::pieces::Pieces;
 use eos_check::Fault;
 use eos_evidence::Evidence;
-use eos_faults::FaultSink;
+use eos_faults::{Crew, FaultSink};
 use eos_kept::Logs;
 use eos_source::Source;
 use eos_touch::PartitionFault;
 use std::alloc::{AllocError, Global};
+use std::marker::Send;
+use std::thread::Threads;
 
 /// All faults of the partitions by themselves, of which one was found in these.
 fn partition_faults<S: Source>(
@@ -48,7 +51,7 @@ fn take_partitions<T: FaultSink>(
     faults: Vec<PartitionFault>,
     sink: &mut T,
 ) -> Result<(), AllocError>
-    ensures { OnOk result (TakesAll T.takes sink.old (map InPartition faults.items) sink.new) }
+    ensures { OnOk result (T.takes sink.old (map InPartition faults.items) sink.new) }
 {
     for fault in faults {
         sink.take(Fault::Partition(fault))?;
@@ -67,25 +70,26 @@ fn take_partitions<T: FaultSink>(
 /// # Errors
 /// Of a partition that is read again: a piece that isn't there or is a fold, or that its least fault is another than the one that was
 /// found; or want of memory. The sink may have taken some.
-pub fn all_faults<S: Source, T: FaultSink>(
-    alloc: Global,
-    source: &S,
-    shape: &Evidence,
+pub fn all_faults<S: Source, R: Threads + Sync, T: FaultSink + Send>(
+    crew: &Crew<'_, R>,
+    pieces: &Pieces<'_, S>,
     logs: &Logs,
     sink: &mut T,
 ) -> Result<(), Unlisted<S::Fault>>
-    ensures ok { OnOk result (TakesList T.takes sink.old (λ list. IsListOf (known_by (S.said source.now) (S.is_log source.now)) shape.now logs.now list
-        × BeginsAsFound shape.now logs.now list) sink.new) }
-    ensures fold { IfErr result (λ why. IsNoLog (S.is_log source.now) why) }
-    ensures earned { IfErr result (IsEarned (known_by (S.said source.now) (S.is_log source.now)) (S.outcomes source.now) shape.now.partitions logs.now.faults.items) }
+    ensures ok { OnOk result (TakesList T.takes sink.old (λ list. IsListOf (known_by (S.said pieces.now.source.now) (S.is_log pieces.now.source.now)) pieces.now.shape.now logs.now list
+        × BeginsAsFound pieces.now.shape.now logs.now list) sink.new) }
+    ensures fold { IfErr result (λ why. IsNoLog (S.is_log pieces.now.source.now) why) }
+    ensures earned { IfErr result (IsEarned (known_by (S.said pieces.now.source.now) (S.is_log pieces.now.source.now)) (S.outcomes pieces.now.source.now) pieces.now.shape.now.partitions logs.now.faults.items) }
 {
+    let source = pieces.source;
+    let shape = pieces.shape;
     let spec = shape.spec();
     if let Some(_fault) = logs.first_fault() {
-        let faults = partition_faults(alloc, source, shape, logs.faults.as_slice())?;
+        let faults = partition_faults(crew.alloc, source, shape, logs.faults.as_slice())?;
         take_partitions(faults, sink)?;
         return Ok(());
     }
-    later_faults(alloc, spec, logs, sink)?;
+    later_faults(crew, spec, logs, sink)?;
     Ok(())
 }
 
@@ -93,18 +97,17 @@ pub fn all_faults<S: Source, T: FaultSink>(
 ///
 /// # Errors
 /// Those of `all_faults`.
-pub fn all_source_faults<S: Source>(
-    alloc: Global,
-    source: &S,
-    shape: &Evidence,
+pub fn all_source_faults<S: Source, R: Threads + Sync>(
+    crew: &Crew<'_, R>,
+    pieces: &Pieces<'_, S>,
     logs: &Logs,
 ) -> Result<Vec<Fault>, Unlisted<S::Fault>>
-    ensures ok { IfOk result (λ faults. IsListOf (known_by (S.said source.now) (S.is_log source.now)) shape.now logs.now faults.items) }
-    ensures first { IfOk result (λ faults. BeginsAsFound shape.now logs.now faults.items) }
-    ensures fold { IfErr result (λ why. IsNoLog (S.is_log source.now) why) }
-    ensures earned { IfErr result (IsEarned (known_by (S.said source.now) (S.is_log source.now)) (S.outcomes source.now) shape.now.partitions logs.now.faults.items) }
+    ensures ok { IfOk result (λ faults. IsListOf (known_by (S.said pieces.now.source.now) (S.is_log pieces.now.source.now)) pieces.now.shape.now logs.now faults.items) }
+    ensures first { IfOk result (λ faults. BeginsAsFound pieces.now.shape.now logs.now faults.items) }
+    ensures fold { IfErr result (λ why. IsNoLog (S.is_log pieces.now.source.now) why) }
+    ensures earned { IfErr result (IsEarned (known_by (S.said pieces.now.source.now) (S.is_log pieces.now.source.now)) (S.outcomes pieces.now.source.now) pieces.now.shape.now.partitions logs.now.faults.items) }
 {
-    let mut list = Vec::new(alloc);
-    all_faults(alloc, source, shape, logs, &mut list)?;
+    let mut list = Vec::new(crew.alloc);
+    all_faults(crew, pieces, logs, &mut list)?;
     Ok(list)
 }

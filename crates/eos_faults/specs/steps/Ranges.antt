@@ -1,5 +1,5 @@
 -- Ranges of sources, which are taken one after the other: what an application has in one, and the faults of those that were taken.
-use Rattle.std.specs.Prelude.{◌≡◌, ◌⊎◌, Bool, true, false, not, ◌&&◌, Option, Some, None, List, [], ◌∷◌, filter}
+use Rattle.std.specs.Prelude.{◌≡◌, ◌⊎◌, ℕ, zero, suc, Bool, true, false, not, ◌&&◌, Option, Some, None, List, [], ◌∷◌, filter, slice_get}
 use Rattle.std.specs.List.Sorted.{IsStrictlySortedBy}
 use Rattle.std.specs.Ordering.{is_lt}
 use Rattle.eos_base.specs.Members.{Has}
@@ -30,6 +30,21 @@ is_before_end (Some end) p = is_below end p
 
 abbrev pub is_within : Range → Place → Bool
 is_within r p = not (is_done r.from p) && is_before_end r.below p
+
+-- ---- those between bounds that rise
+
+-- the bound where the range of this number begins: there is none for the first
+abbrev pub bound_before : List LentPlace → ℕ → Option LentPlace
+bound_before bounds zero = None
+bound_before bounds (suc n) = slice_get bounds n
+
+abbrev pub range_at : List LentPlace → ℕ → Range
+range_at bounds n = record { from = bound_before bounds n; below = slice_get bounds n }
+
+-- in one of the first so many
+abbrev pub is_up_to : List LentPlace → ℕ → Place → Bool
+is_up_to bounds zero p = false
+is_up_to bounds (suc n) p = is_before_end (slice_get bounds n) p
 
 -- ---- what an application has there
 

@@ -7,8 +7,8 @@ use Rattle.eos_faults.proofs.Restricted.{apart_within}
 use Rattle.eos_faults.proofs.WholeOutputs.{mapped_order}
 use Rattle.eos_faults.proofs.by_range.tables_of.Goals as goal
 
-pub returns : goal.returns
-returns c = λ a are.
+pub returns-clause-tables : goal.returns-clause-tables
+returns-clause-tables c = λ a are.
     let range = c.args.range.now in
     let inputs = c.in_ok-inputs.ensures ∙ ap (filter (is_within range)) (sym are.inputs) in
     let claims = c.in_ok-claims.ensures ∙ ap (filter (is_source_within range)) (sym are.claims) in

@@ -1,4 +1,4 @@
-use Rattle.std.proofs.Common.{◌∙◌, ◌++◌, [], List, length, map, option_map, ap, sym, subst, inl, inr, arith}
+use Rattle.std.proofs.Common.{◌∙◌, ◌++◌, [], List, length, map, ap, sym, subst, inl, inr, arith}
 use Rattle.std.specs.Prelude.{slice_get}
 use Rattle.std.proofs.lemmas.List.{map-append}
 use Rattle.eos_base.specs.Members.{Has}
@@ -8,15 +8,13 @@ use Rattle.eos_claims.specs.Faults.{fault_cmp}
 use Rattle.eos_claims.proofs.FaultOrder.{fault_exact}
 use Rattle.eos_verdict.specs.declared.verdict.Fault.{Fault}
 use Rattle.eos_verdict.specs.declared.verdict.Fault.TheVariants.{Lineage}
-use Rattle.eos_faults.specs.Sinks.{TakesAll}
 use Rattle.eos_faults.specs.steps.BySource.{AreTold, IsNext}
 use Rattle.eos_faults.specs.steps.Plain.{fault_of}
 use Rattle.eos_faults.specs.steps.Tables.{AreClaims, AreInputs}
-use Rattle.eos_faults.specs.steps.Taken.{in_group}
+use Rattle.eos_faults.specs.steps.Taken.{group_in, in_group}
 use Rattle.eos_faults.proofs.BySource.{none_told, told_more}
 use Rattle.eos_faults.proofs.LentOutputs.{lent_rises, lent_each, lent_all, map_twice}
 use Rattle.eos_faults.proofs.NextSource.{claims_of_next, inputs_of_next, none_passed, passed_more}
-use Rattle.eos_faults.proofs.SinksTaken.{nothing_taken, takes_joined}
 use Rattle.eos_faults.proofs.SourceEnds.{progress, all_passed}
 use Rattle.eos_faults.proofs.WholeOutputs.{whole_outputs}
 use Rattle.eos_faults.proofs.by_source.faults_by_source.Goals as goal
@@ -27,7 +25,7 @@ loop-source-init g c = (
   omega arith,
   none_passed c.as_slice-claims.result.now c.as_slice-inputs.result.now,
   [],
-  nothing_taken g.S.FaultSink.takes c.args.sink.now,
+  g.met.S.FaultSink.takes_none c.args.sink.now,
   λ a are. none_told a c.as_slice-claims.result.now c.as_slice-inputs.result.now,
 )
 
@@ -53,7 +51,7 @@ loop-source-preserved g c =
     let is = c.as_slice-inputs.result.now in
     let claims = c.end_of_claims-last_claim.ensures c.as_slice-claims.ensures.sorted in
     let inputs = c.end_of_inputs-last_input.ensures c.as_slice-inputs.ensures.sorted in
-    let group = option_map (λ r. r.now) c.args.group in
+    let group = group_in c.args.tables.now.books.now in
     let takes = g.S.FaultSink.takes in
     let so_far = c.loop-source.invariant in
     let found = c.in_ok-faults.faults.items in
@@ -62,13 +60,13 @@ loop-source-preserved g c =
     let named = ap (map Lineage) (map_twice (in_group group) fault_of kept) in
     let next = subst (IsNext (slice_get cs c.loop-source.claim) (slice_get is c.loop-source.input)) c.in-Some.is c.next_source.ensures in
     let joined = ap (map Lineage) (map-append (in_group group) so_far.3 fs) ∙ map-append Lineage (map (in_group group) so_far.3) (map (in_group group) fs) in
-    let step = subst (λ (xs : List Fault). TakesAll takes c.loop-source.sink xs c.hand_on.new.sink) named c.in_ok-hand_on.ensures in (
+    let step = subst (λ (xs : List Fault). takes c.loop-source.sink xs c.hand_on.new.sink) named c.in_ok-hand_on.ensures in (
       claims.within,
       inputs.within,
       passed_more c.in-Some.source cs is c.loop-source.claim c.loop-source.input next c.end_of_claims-last_claim.result c.end_of_inputs-last_input.result so_far.2 claims inputs,
       so_far.3 ++ fs,
-      subst (λ (xs : List Fault). TakesAll takes c.args.sink.now xs c.hand_on.new.sink) (sym joined)
-          (takes_joined takes (map Lineage (map (in_group group) so_far.3)) (map Lineage (map (in_group group) fs)) c.args.sink.now c.loop-source.sink c.hand_on.new.sink so_far.4 step),
+      subst (λ (xs : List Fault). takes c.args.sink.now xs c.hand_on.new.sink) (sym joined)
+          (g.met.S.FaultSink.takes_both c.args.sink.now c.loop-source.sink c.hand_on.new.sink (map Lineage (map (in_group group) so_far.3)) (map Lineage (map (in_group group) fs)) so_far.4 step),
       λ a are.
           let all = subst (AreClaims a) (sym c.as_slice-claims.ensures.items) are.claims in
           let mine = claims_of_next c.in-Some.source cs is c.loop-source.claim c.loop-source.input next a c.end_of_claims-last_claim.result all c.as_slice-claims.ensures.sorted so_far.2 claims in

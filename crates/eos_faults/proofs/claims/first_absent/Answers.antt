@@ -1,4 +1,4 @@
-use Rattle.std.proofs.Common.{◌+◌, ap, sym, ◌∙◌, true, false, arith}
+use Rattle.std.proofs.Common.{◌+◌, ap, sym, ◌∙◌, arith}
 use Rattle.eos_faults.specs.steps.OutputFaultsGathered.{first_absent, is_there}
 use Rattle.eos_faults.proofs.LookedUp.{absent_at, absent_never}
 use Rattle.eos_faults.proofs.SortedClaims.{not_there, numbers_rise, there_is}

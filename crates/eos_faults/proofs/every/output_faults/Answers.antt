@@ -9,17 +9,18 @@ use Rattle.eos_verdict.specs.declared.verdict.Fault.TheVariants.{Lineage}
 use Rattle.eos_lineage.specs.Faults.{named_group}
 use Rattle.eos_lineage.proofs.FirstFault.{unequal_groups}
 use Rattle.eos_lineage.proofs.LineageLaw.{reads}
-use Rattle.eos_faults.specs.Sinks.{TakesAll}
 use Rattle.eos_faults.specs.steps.Taken.{in_group, AreTaken}
 use Rattle.eos_faults.proofs.AllTaken.{none_taken, taken_more, all_taken}
-use Rattle.eos_faults.proofs.SinksTaken.{nothing_taken, takes_joined}
 use Rattle.eos_faults.proofs.every.output_faults.Goals as goal
 
 pub loop-app-init : goal.loop-app-init
-loop-app-init g c = ([], nothing_taken g.S.FaultSink.takes c.args.sink.now, λ order. none_taken c.as_slice-apps.result.now c.args.parts.now)
+loop-app-init g c =
+    let laws = g.met.S.FaultSink g.world.𝓛 g.world.𝓜 g.world.𝓡 ((λ s x. x), (λ x. x), (λ x. x), λ x. x) in
+    ([], laws.takes_none c.args.sink.now, λ order. none_taken c.as_slice-apps.result.now c.args.parts.now)
 
 pub loop-app-preserved : goal.loop-app-preserved
 loop-app-preserved g c =
+    let laws = g.met.S.FaultSink g.world.𝓛 g.world.𝓜 g.world.𝓡 ((λ s x. x), (λ x. x), (λ x. x), λ x. x) in
     let apps = c.as_slice-apps.result.now in
     let parts = c.args.parts.now in
     let i = c.loop-app.app-index in
@@ -28,13 +29,13 @@ loop-app-preserved g c =
     let so_far = c.loop-app.invariant in
     let told = c.in_ok-faults_by_range.ensures in
     let named = map (in_group (named_group apps app)) told.0 in
-    let step = subst (λ (group : Option Group). TakesAll takes c.loop-app.sink (map Lineage (map (in_group group) told.0)) c.faults_by_range.new.sink) c.group_of.ensures told.1 in
+    let step = subst (λ (group : Option Group). takes c.loop-app.sink (map Lineage (map (in_group group) told.0)) c.faults_by_range.new.sink) c.in_ok-books.ensures.group told.1 in
     let further = ap (λ (t : App). take i apps ++ t ∷ []) c.app-item.is ∙ sym (take_more apps i app c.loop-app-test.true) in (
       so_far.0 ++ named,
-      subst (λ (fs : List Fault). TakesAll takes c.args.sink.now fs c.faults_by_range.new.sink) (sym (map-append Lineage so_far.0 named))
-          (takes_joined takes (map Lineage so_far.0) (map Lineage named) c.args.sink.now c.loop-app.sink c.faults_by_range.new.sink so_far.1 step),
+      subst (λ (fs : List Fault). takes c.args.sink.now fs c.faults_by_range.new.sink) (sym (map-append Lineage so_far.0 named))
+          (laws.takes_both c.args.sink.now c.loop-app.sink c.faults_by_range.new.sink (map Lineage so_far.0) (map Lineage named) so_far.1 step),
       λ order.
-          let each = told.2 (application_of app parts) (reads app parts) (c.in_ok-books.ensures order) in
+          let each = told.2 (application_of app parts) (reads app parts) (c.in_ok-books.ensures.books order) in
           subst (λ (done : List App). AreTaken apps parts done (so_far.0 ++ named)) further (taken_more apps parts (take i apps) app told.0 so_far.0 (so_far.0 ++ named) (so_far.2 order) each refl),
     )
 
@@ -53,4 +54,4 @@ returns g c =
 
 pub books_of-requires : goal.books_of-requires
 books_of-requires g c =
-    (c.as_slice-apps.result.now, c.in_ok-table.ensures, item_has c.as_slice-apps.result.now c.loop-app.app-index c.app-item.result c.loop-app-test.true c.app-item.is)
+    (c.in_ok-table.ensures, item_has c.as_slice-apps.result.now c.loop-app.app-index c.app-item.result c.loop-app-test.true c.app-item.is)

@@ -14,8 +14,8 @@ use Rattle.eos_source_check.proofs.listed.all_faults.Goals as goal
 
 pub returns-in-Some-clause-ok : goal.returns-in-Some-clause-ok
 returns-in-Some-clause-ok g c =
-    let known = known_by (g.S.Source.said c.args.source.now) (g.S.Source.is_log c.args.source.now) in
-    let shape = c.args.shape.now in
+    let known = known_by (g.S.Source.said c.args.pieces.now.source.now) (g.S.Source.is_log c.args.pieces.now.source.now) in
+    let shape = c.args.pieces.now.shape.now in
     let logs = c.args.logs.now in
     let list = c.in_ok-faults.faults.items in
     let found : first_of logs.faults.items ≡ Some c.in-Some._fault.now = search rules in
@@ -29,8 +29,8 @@ returns-in-Some-clause-ok g c =
 
 pub returns-clause-ok : goal.returns-clause-ok
 returns-clause-ok g c =
-    let known = known_by (g.S.Source.said c.args.source.now) (g.S.Source.is_log c.args.source.now) in
-    let shape = c.args.shape.now in
+    let known = known_by (g.S.Source.said c.args.pieces.now.source.now) (g.S.Source.is_log c.args.pieces.now.source.now) in
+    let shape = c.args.pieces.now.shape.now in
     let logs = c.args.logs.now in
     let told = c.in_ok-later_faults.ensures in
     let found : first_of logs.faults.items ≡ None = search rules in
@@ -45,6 +45,6 @@ returns-clause-ok g c =
 
 pub returns-in_err-faults-clause-earned : goal.returns-in_err-faults-clause-earned
 returns-in_err-faults-clause-earned g c =
-    let known = known_by (g.S.Source.said c.args.source.now) (g.S.Source.is_log c.args.source.now) in
+    let known = known_by (g.S.Source.said c.args.pieces.now.source.now) (g.S.Source.is_log c.args.pieces.now.source.now) in
     let p = err_from_is_err_and c.from_residual.result c.from_residual.ensures.1 in
-    rw (p.1, p.2) (subst (λ (fs : List (Option PartitionFault)). IsEarned known (g.S.Source.outcomes c.args.source.now) c.args.shape.now.partitions fs c.in_err-faults.field-0.0) c.as_slice.ensures.value c.in_err-faults.ensures.earned)
+    rw (p.1, p.2) (subst (λ (fs : List (Option PartitionFault)). IsEarned known (g.S.Source.outcomes c.args.pieces.now.source.now) c.args.pieces.now.shape.now.partitions fs c.in_err-faults.field-0.0) c.as_slice.ensures.value c.in_err-faults.ensures.earned)
