@@ -8,7 +8,7 @@ use Rattle.std.specs.Cmp.Lexicographic.{slice_cmp}
 use Rattle.std.specs.declared.cmp.Ordering.TheVariants.{Less, Equal, Greater}
 use Rattle.std.proofs.lemmas.Bool.{ltb-true, eqb-true}
 use Rattle.std.proofs.lemmas.List.{drop_more}
-use Rattle.std.proofs.lemmas.List.Elements.{All-contains}
+use Rattle.std.proofs.lemmas.List.Elements.{All-contains, All-push}
 use Rattle.std.proofs.lemmas.List.Sorted.{Contains-permutation}
 use Rattle.eos_base.proofs.Exact.{nat_exact}
 use Rattle.eos_base.proofs.NamesInOrder.{name_exact}
@@ -91,3 +91,10 @@ pub told : (known : ℕ → Known) (partitions : List Partition) (tables : List 
 told known partitions tables table place time all here named among is =
     let t = All-contains (IsTable known partitions) tables table all here in
     time_is known partitions place table.name table.offsets t.times time named among t.are (is ∙ t.index place.offset)
+
+-- ---- partition by partition
+
+pub tables_more : (known : ℕ → Known) (partitions : List Partition) (before after : List Table) (table : Table) → All (IsTable known partitions) before → IsTable known partitions table → after ≡ before ++ table ∷ []
+    → All (IsTable known partitions) after
+tables_more known partitions before after table all one pushed =
+    subst (λ (ts : List Table). All (IsTable known partitions) ts) (sym pushed) (All-push (IsTable known partitions) before table all one)

@@ -104,7 +104,6 @@ fn alone(alloc: Global, offset: u64) -> Result<Sorted<u64>, AllocError>
 }
 
 /// When the record at a place was written, by a walk for it alone.
-#[tactic(auto, using(crate::proofs::TablesRead::time_is))]
 fn time_alone<S: Source>(
     alloc: Global,
     pieces: &Pieces<'_, S>,

@@ -130,9 +130,18 @@ fn answer_folder<D: Disk, T: Timed + Watch, R: Threads + Sync>(
         subject: asked.subject,
         report: wanted_with(folded.folds, asked.report),
     };
-    let answer = answer_shape(alloc, threads, folder, &shape, &counting)?;
-    shape.listed?;
-    Ok((answer, folded))
+    match answer_shape(alloc, threads, folder, &shape, &counting) {
+        Ok(answer) => {
+            drop(shape.evidence);
+            drop(shape.forms);
+            shape.listed?;
+            Ok((answer, folded))
+        }
+        Err(fault) => {
+            drop(shape);
+            Err(fault)
+        }
+    }
 }
 
 /// Writes the lines of an answer, and hands on what else is told.
@@ -163,7 +172,6 @@ fn told<W: Write>(writer: &mut W, answer: SourceAnswer, folded: Folded) -> Resul
 /// At `CannotWrite` a front of the lines was written. Before all is read and judged nothing is: `Refused` says which file or folder is no
 /// evidence or can't be read, or that memory ran out. It is the first refusal: that of the manifest, or of the first segment that is listed
 /// and isn't read, or, where each was opened, of the listing; where all faults are told also of a segment that is read again.
-#[tactic(auto, using(crate::proofs::FolderAnswers::told_of, crate::proofs::FolderAnswers::front_of, crate::proofs::FolderAnswers::known_of, crate::proofs::FoldsCounted::folded_too, crate::proofs::FoldsCounted::dated_as_told))]
 pub fn check_folder_to<D: Disk, T: Timed + Watch, R: Threads + Sync, W: Write>(
     alloc: Global,
     threads: &R,

@@ -1,7 +1,7 @@
 //! The answer of `check` for an evidence that is read from a source, chunk by chunk, of which no more is held than what it is worked
 //! out of.
 
-ghost use Rattle.std.specs.Prelude.{◌≡◌, ◌==◌, true, not, List, length, IfOk, IfErr, is_some, string_bytes, alloc_error};
+ghost use Rattle.std.specs.Prelude.{◌≡◌, ◌==◌, true, false, not, List, length, IfOk, IfErr, is_some, string_bytes, alloc_error};
 ghost use Rattle.eos_verdict.specs.declared.verdict.Fault.{Fault};
 ghost use Rattle.eos_commits.specs.Faults.{AreInOrder};
 ghost use Rattle.eos_notes.specs.Notes.{AreAllNotesBy};
@@ -172,6 +172,28 @@ fn by_of<T>(asked: &Asked<'_, T>) -> By
     }
 }
 
+/// What is told of what was judged, with the first fault alone.
+fn first_told<S: Source, T: Timed>(
+    alloc: Global,
+    pieces: &Pieces<'_, S>,
+    noted: &Noted,
+    asked: &Asked<'_, T>,
+) -> Result<SourceAnswer, AllocError>
+    requires { IsNotesTextOf pieces.now.shape.now.spec noted.now.judged asked.now.quiet (string_bytes noted.now.notes) }
+    ensures told { IfOk result (TellsOf pieces.now.shape.now.spec noted.now.judged (first_alone noted.now.judged.verdict) asked.now.subject asked.now.json false asked.now.quiet asked.now.terms asked.now.report) }
+    ensures dated { IfOk result (λ answer. IsDated (known_by (S.said pieces.now.source.now) (S.is_log pieces.now.source.now)) pieces.now.shape.now.partitions asked.now.report answer.report) }
+{
+    let first = faults_of(&noted.judged.verdict);
+    let dates = dates_if(alloc, pieces, first, asked.report)?;
+    let faults = Faults {
+        told: first,
+        all: false,
+        dates: &dates,
+    };
+    let answer = told(alloc, pieces.shape.spec(), noted, faults, asked)?;
+    Ok(answer)
+}
+
 /// The answer to an evidence of this shape, whose pieces are read from the source, each once and by at most so many threads. No more
 /// of them is held than what verdict, notes and report are worked out of. There is what each piece said, as far as it is known just
 /// that, and all of the answer is true of each evidence of this shape whose segments are such; of a no it tells the first fault
@@ -191,15 +213,9 @@ pub fn answer_source<S: Source, T: Timed, R: Threads + Sync>(
     ensures refused { IfErr result (IsRefusal (S.outcomes pieces.entry.source.now) (S.Fault.from_gives alloc_error) (pieces_of pieces.entry.shape.now)) }
 {
     let noted = judge_noted(alloc, rt, pieces.source, pieces.shape, by_of(asked))?;
-    let first = faults_of(&noted.judged.verdict);
-    let dates = dates_if(alloc, &pieces, first, asked.report)?;
-    let faults = Faults {
-        told: first,
-        all: false,
-        dates: &dates,
-    };
-    let answer = told(alloc, pieces.shape.spec(), &noted, faults, asked)?;
-    Ok(answer)
+    let answer = first_told(alloc, &pieces, &noted, asked);
+    drop(noted);
+    Ok(answer?)
 }
 
 /// All faults of what was judged.
@@ -266,8 +282,16 @@ pub fn answer_all<S: Source, T: Timed, R: Threads + Sync>(
                 rt,
                 workers: asked.workers,
             };
-            let answer = all_told(&crew, &pieces, &noted, asked)?;
-            Ok(answer)
+            match all_told(&crew, &pieces, &noted, asked) {
+                Ok(answer) => {
+                    drop(noted);
+                    Ok(answer)
+                }
+                Err(why) => {
+                    drop(noted);
+                    Err(why)
+                }
+            }
         }
         Err(fault) => Err(Unlisted::Refused(fault)),
     }
