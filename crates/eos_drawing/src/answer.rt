@@ -76,8 +76,9 @@ pub(crate) fn answer_source<S: Source, R: Threads + Sync>(
                 rt: threads,
                 workers,
             };
-            let answer = answer_judged(&crew, pieces, &judged, wanted)?;
-            Ok(answer)
+            let answer = answer_judged(&crew, pieces, &judged, wanted);
+            drop(judged);
+            Ok(answer?)
         }
         Err(fault) => Err(Unlisted::Refused(fault)),
     }
@@ -143,8 +144,9 @@ fn answer_later<S: Source, R: Threads + Sync>(
     let faults = all_source_faults(crew, &pieces, &judged.logs)?;
     match later_of(faults, number) {
         Ok(verdict) => {
-            let drawn = drawn_of(crew.alloc, pieces, judged, &verdict, wanted)?;
-            Ok(Answer::Drawn(drawn))
+            let drawn = drawn_of(crew.alloc, pieces, judged, &verdict, wanted);
+            drop(verdict);
+            Ok(Answer::Drawn(drawn?))
         }
         Err(count) => Ok(Answer::TooFew(count)),
     }

@@ -37,7 +37,11 @@ pub fn draw_folder(
     ) {
         Ok(status) => status,
         Err(Undrawn::Unwritten(fault)) => end_unchanged(rt, words.file, fault),
-        Err(Undrawn::Refused(fault)) => end_unread(rt, Subject::Only, &fault),
+        Err(Undrawn::Refused(fault)) => {
+            let status = end_unread(rt, Subject::Only, &fault);
+            drop(fault);
+            status
+        }
         Err(Undrawn::TooFew(count)) => end_fewer(rt, count as u64),
         Err(Undrawn::CannotPrint) => end(rt, Ending::CannotWrite(STANDARD)),
     }

@@ -100,9 +100,17 @@ fn answer_folder<D: Disk, T: Watch, R: Threads + Sync>(
     ensures first { IfErr result (IsFirstOfDrawing (D.holds asked.now.disk.now) asked.now.folder.now (is_later asked.now.fault)) }
 {
     let shape = read_shape(alloc, asked.disk, asked.folder, asked.watch)?;
-    let answer = answer_shape(alloc, threads, asked, &shape)?;
-    shape.listed?;
-    Ok(answer)
+    match answer_shape(alloc, threads, asked, &shape) {
+        Ok(answer) => {
+            drop(shape.evidence);
+            shape.listed?;
+            Ok(answer)
+        }
+        Err(fault) => {
+            drop(shape);
+            Err(fault)
+        }
+    }
 }
 
 /// Begins the file of a picture. A path names no file where it is empty or ends in a slash, whatever stands there.
@@ -134,7 +142,6 @@ fn begun<E: DiskMut>(
 /// But for `CannotPrint` no file came and nothing was printed. `Refused` is the first refusal of the folder: that of the manifest, or of the
 /// first segment that is listed and isn't read, or, where each was opened, of the listing, or of a segment that is read again: for the times
 /// of its records, or where a later fault is wanted.
-#[tactic(auto, using(crate::proofs::Placed::dropped_after, crate::proofs::Placed::left_after))]
 pub fn draw_folder_to<D: Disk, E: DiskMut, T: Watch, R: Threads + Sync, W: Write>(
     alloc: Global,
     threads: &R,

@@ -71,8 +71,10 @@ fn texts_around<S: Source>(
             source: pieces.source,
             shape: pieces.shape,
         };
-        let text = text_around(alloc, again, judged, &Verdict::No(fault))?;
-        texts.push(text)?;
+        let verdict = Verdict::No(fault);
+        let text = text_around(alloc, again, judged, &verdict);
+        drop(verdict);
+        texts.push(text?)?;
     }
     Ok(texts)
 }
@@ -155,8 +157,9 @@ fn of_source<S: Source, R: Threads + Sync>(
                 rt: threads,
                 workers: first.workers,
             };
-            let texts = of_judged(&crew, pieces, &judged, first.most)?;
-            Ok(texts)
+            let texts = of_judged(&crew, pieces, &judged, first.most);
+            drop(judged);
+            Ok(texts?)
         }
         Err(fault) => Err(Unlisted::Refused(fault)),
     }
@@ -197,9 +200,17 @@ fn of_folder<D: Disk, T: Watch, R: Threads + Sync>(
     ensures first { IfErr result (IsFirstOfDrawing (D.holds folder.entry.disk.now) folder.entry.path.now (is_later (Some first.now.most))) }
 {
     let shape = read_shape(alloc, folder.disk, folder.path, folder.watch)?;
-    let texts = of_shape(alloc, threads, folder, &shape, first)?;
-    shape.listed?;
-    Ok(texts)
+    match of_shape(alloc, threads, folder, &shape, first) {
+        Ok(texts) => {
+            drop(shape.evidence);
+            shape.listed?;
+            Ok(texts)
+        }
+        Err(fault) => {
+            drop(shape);
+            Err(fault)
+        }
+    }
 }
 
 /// The pictures around the first faults of the evidence in a folder of a disk, in the order of the list of all, as the texts that `draw`

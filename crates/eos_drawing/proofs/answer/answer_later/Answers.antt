@@ -8,7 +8,7 @@ pub returns-in_ok-drawn-in-Ok-clause-answer : goal.returns-in_ok-drawn-in-Ok-cla
 returns-in_ok-drawn-in-Ok-clause-answer g c =
     let source = c.args.pieces.source.now in
     later_shown (known_by (g.S.Source.said source) (g.S.Source.is_log source)) c.args.pieces.shape.now c.args.judged.now c.args.wanted.fault c.args.wanted.around c.args.number
-    c.in_ok-faults.faults.items c.in-Ok.verdict c.in_ok-drawn-in-Ok.drawn c.requires.number c.requires.later c.in_ok-faults.ensures.ok c.in-Ok.ensures.ok c.in_ok-drawn-in-Ok.ensures.drawn
+    c.in_ok-faults.faults.items c.in-Ok.verdict c.in_ok-drawn-in-Ok.field-0 c.requires.number c.requires.later c.in_ok-faults.ensures.ok c.in-Ok.ensures.ok c.in_ok-drawn-in-Ok.ensures.drawn
 
 pub returns-in-Err-clause-answer : goal.returns-in-Err-clause-answer
 returns-in-Err-clause-answer g c =

@@ -10,19 +10,18 @@ returns-in_err-shape-clause-first g c =
     let asked = c.args.asked.now in
     rw (p.1, p.2) (of_manifest (g.D.Disk.holds asked.disk.now) asked.folder.now (is_later asked.fault) c.in_err-shape.field-0.0 c.in_err-shape.ensures.refused)
 
-pub returns-in_err-answer-clause-first : goal.returns-in_err-answer-clause-first
-returns-in_err-answer-clause-first g c =
-    let p = err_from_is_err_and c.from_residual-in_err-answer.result c.from_residual-in_err-answer.ensures.1 in
+pub returns-in-Err-clause-first : goal.returns-in-Err-clause-first
+returns-in-Err-clause-first g c =
     let asked = c.args.asked.now in
     let shape = c.in_ok-shape.shape in
-    rw (p.1, p.2) (of_piece (g.D.Disk.holds asked.disk.now) asked.folder.now (is_later asked.fault) shape.evidence shape.forms.items shape.listed c.in_err-answer.field-0.0
-    c.in_ok-shape.ensures.all c.in_ok-shape.ensures.front c.in_err-answer.ensures.refused)
+    of_piece (g.D.Disk.holds asked.disk.now) asked.folder.now (is_later asked.fault) shape.evidence shape.forms.items shape.listed c.in-Err.fault
+    c.in_ok-shape.ensures.all c.in_ok-shape.ensures.front c.in-Err.ensures.refused
 
-pub returns-in_err-shape-2-clause-first : goal.returns-in_err-shape-2-clause-first
-returns-in_err-shape-2-clause-first g c =
-    let p = err_from_is_err_and c.from_residual-in_err-shape-2.result c.from_residual-in_err-shape-2.ensures.1 in
+pub returns-in_err-shape-in-Ok-clause-first : goal.returns-in_err-shape-in-Ok-clause-first
+returns-in_err-shape-in-Ok-clause-first g c =
+    let p = err_from_is_err_and c.from_residual-in_err-shape-in-Ok.result c.from_residual-in_err-shape-in-Ok.ensures.1 in
     let asked = c.args.asked.now in
     let shape = c.in_ok-shape.shape in
-    let why = c.in_err-shape-2.field-0.0 in
+    let why = c.in_err-shape-in-Ok.field-0.0 in
     rw (p.1, p.2) (of_listing (g.D.Disk.holds asked.disk.now) asked.folder.now (is_later asked.fault) shape.evidence shape.forms.items why
-    (c.in_ok-shape.ensures.front why c.in_err-shape-2.was) c.in_ok-answer.ensures.opened)
+    (c.in_ok-shape.ensures.front why c.in_err-shape-in-Ok.was) c.in-Ok.ensures.opened)

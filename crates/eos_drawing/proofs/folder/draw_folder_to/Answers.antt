@@ -5,6 +5,7 @@ use Rattle.eos_drawing.specs.declared.answer.Answer.{Answer}
 use Rattle.eos_drawing.specs.Folders.{is_later, HoldsOf, IsDrawn, IsHalfDrawn}
 use Rattle.eos_drawing.specs.steps.Answers.{IsAnswer}
 use Rattle.eos_drawing.proofs.FolderAnswers.{known_of, few_of, drawn_of, half_of}
+use Rattle.eos_drawing.proofs.Placed.{dropped_after, left_after}
 use Rattle.eos_drawing.proofs.folder.draw_folder_to.Goals as goal
 
 pub returns-in-Ok-finish-clause-some : goal.returns-in-Ok-finish-clause-some
@@ -61,3 +62,18 @@ returns-in-Ok-TooFew-clause-known_few g c e known at count is =
     let of = few_of holds asked.folder.now asked.fault asked.around c.in-Ok-TooFew.count
     (subst (λ (a : Answer). HoldsOf holds asked.folder.now (is_later asked.fault) (IsAnswer asked.fault asked.around a)) c.in-Ok-TooFew.field-0-is c.in-Ok-TooFew.ensures.answer) in
     subst (AreTooFew e asked.fault) same (known_of holds asked.folder.now (is_later asked.fault) (λ _ _ x. AreTooFew x asked.fault c.in-Ok-TooFew.count) e known at of)
+
+pub returns-in-Ok-Drawn-clause-untouched : goal.returns-in-Ok-Drawn-clause-untouched
+returns-in-Ok-Drawn-clause-untouched g c other =
+    left_after c.args.asked.now.file.now c.in-Ok.file c.as_bytes.result.now (g.E.Disk.holds c.args.disk.now) (g.E.Disk.holds c.begun.new.disk) (g.E.Disk.holds c.end_file.new.disk)
+    c.in-Ok.ensures.ok.0 c.in-Ok.ensures.ok.1 c.in-Err-end_file.ensures.err
+
+pub returns-in-Ok-TooFew-clause-untouched : goal.returns-in-Ok-TooFew-clause-untouched
+returns-in-Ok-TooFew-clause-untouched g c other =
+    dropped_after c.args.asked.now.file.now c.in-Ok.file (g.E.Disk.holds c.args.disk.now) (g.E.Disk.holds c.begun.new.disk) (g.E.Disk.holds c.drop_file.new.disk)
+    c.in-Ok.ensures.ok.0 c.in-Ok.ensures.ok.1 c.drop_file.ensures
+
+pub returns-clause-untouched : goal.returns-clause-untouched
+returns-clause-untouched g c other =
+    dropped_after c.args.asked.now.file.now c.in-Ok.file (g.E.Disk.holds c.args.disk.now) (g.E.Disk.holds c.begun.new.disk) (g.E.Disk.holds c.drop_file-in-Err-answer_folder.new.disk)
+    c.in-Ok.ensures.ok.0 c.in-Ok.ensures.ok.1 c.drop_file-in-Err-answer_folder.ensures
