@@ -98,19 +98,24 @@ def check_runs(program, library):
 
 
 def explain_runs(program, library):
-    """The same of `explain` beside `check`, where the group is another and each output is amiss."""
+    """The same of `explain` beside `check`, where the group is another and each output is amiss, and whether `check --all` lists just
+    these, in the order of inputs, by however many ranges."""
     with tempfile.TemporaryDirectory() as made:
         large(made)
         with open(f"{made}/evidence.json") as file:
             spec = json.load(file)
         with open(f"{made}/evidence.json", "w") as file:
             json.dump(dict(spec, group="h"), file)
+        count = EACH * OUTPUTS
+        early = [f"no 5.7 Early source=in-0:{offset} output=1 at=out-{(count - 1 - offset) % OUTPUTS}:{(count - 1 - offset) // OUTPUTS}" for offset in range(count)]
         for named in (None, 1, 2, 4, 8):
             workers = named or 4
             words = ["--workers", str(named)] if named else []
             checked, before, _ = counted([program, "check", *words, made], library)
             told, started, most = counted([program, "explain", *words, made], library)
+            listed, _, _ = counted([program, "check", "--all", *words, made], library)
             right = (checked.returncode, told.returncode) == (1, 1) and started == before + workers - 1 and most <= workers - 1
+            right = right and listed.stdout.splitlines() == [*early, f"faults={count}"]
             yield right, f"explain, {workers} workers: {started} threads, {most} at once, where check starts {before}; {told.stdout[:200]}{told.stderr}"
 
 
