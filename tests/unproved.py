@@ -49,9 +49,26 @@ def sources():
     return [os.path.relpath(path, SOURCES)[: -len(".rattle")] for path in paths]
 
 
+def derive(folder):
+    """Has types of the crates below this folder derive what rows print and compare them by, as tests/rows/derives.txt lists them."""
+    with open(f"{SOURCES}/derives.txt", encoding="utf-8") as file:
+        lines = [line for line in file.read().splitlines() if not line.startswith("#")]
+    for line in lines:
+        (crate, *traits), names = (part.split() for part in line.split(":"))
+        for path in glob.glob(f"{folder}/crates/{crate}/src/**/*.rt", recursive=True):
+            with open(path, encoding="utf-8") as file:
+                text = file.read()
+            items = rf"(?m)^( *pub (?:struct|enum) (?:{'|'.join(names)})\b)"
+            more = re.sub(items, rf"#[derive({', '.join(traits)})]\n\1", text)
+            if more != text:
+                with open(path, "w", encoding="utf-8") as file:
+                    file.write(more)
+
+
 def make_crate(folder):
     """The program's crate, below this folder."""
     shutil.copytree(f"{TOP}/crates", f"{folder}/crates", ignore=shutil.ignore_patterns("out"))
+    derive(folder)
     crate = f"{folder}/crates/rows"
     words = set()
     for name in sources():

@@ -12,7 +12,7 @@ use std::slice::Iter;
 
 /// A vector that contracts see as the list of its items, also as a field of a struct: `≡` of two such structs is then of
 /// their items, whatever room the vectors have.
-#[derive(Debug, Drop)]
+#[derive(Drop)]
 pub struct Listed<T> {
     items: Vec<T>,
 }

@@ -8,7 +8,7 @@ use bytes::Bytes;
 use std::cmp::Ordering;
 
 /// A partition's name: its topic and its number there. Names are ordered by topic bytes, then number.
-#[derive(Clone, Debug, PartialEq, Eq, PartialOrd, Ord, Drop)]
+#[derive(Clone, PartialEq, Eq, PartialOrd, Ord, Drop)]
 pub struct PartitionName {
     pub topic: Bytes,
     pub partition: i32,

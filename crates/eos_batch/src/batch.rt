@@ -4,7 +4,7 @@ use crate::record::Records;
 use eos_base::Listed;
 
 /// A record batch of magic 2.
-#[derive(Clone, Debug, PartialEq, Eq, Drop)]
+#[derive(Clone, Drop)]
 pub struct Batch {
     /// The first record's offset in its partition.
     pub base_offset: i64,

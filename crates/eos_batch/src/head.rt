@@ -3,7 +3,7 @@
 use crate::marker::Marker;
 
 /// A batch's fields but for its records, as `decode_batch` would read them.
-#[derive(Clone, Copy, Debug, PartialEq, Eq)]
+#[derive(Clone, Copy)]
 pub struct BatchHead {
     /// The base offset.
     pub offset: u64,

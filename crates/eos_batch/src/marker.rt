@@ -19,14 +19,14 @@ use bytes::Bytes;
 use eos_wire::Fields;
 
 /// How a transaction ended.
-#[derive(Clone, Copy, Debug, PartialEq, Eq, PartialOrd, Ord)]
+#[derive(Clone, Copy, PartialEq, Eq, PartialOrd, Ord)]
 pub enum Kind {
     Commit,
     Abort,
 }
 
 /// An end marker: the control record with which a transaction ends in a partition.
-#[derive(Clone, Copy, Debug, PartialEq, Eq)]
+#[derive(Clone, Copy)]
 pub struct Marker {
     /// The producer id whose transaction ends.
     pub producer: i64,

@@ -4,7 +4,7 @@ use bytes::Bytes;
 use eos_base::Listed;
 
 /// A header of a record: a key and perhaps a value.
-#[derive(Clone, Debug, PartialEq, Eq, Drop)]
+#[derive(Clone, Drop)]
 pub struct Header {
     pub key: Bytes,
     pub value: Option<Bytes>,
@@ -14,7 +14,7 @@ pub struct Header {
 pub type Headers = Listed<Header>;
 
 /// A record of a batch. Its offset is the batch's base offset plus its place.
-#[derive(Clone, Debug, PartialEq, Eq, Drop)]
+#[derive(Clone, Drop)]
 pub struct Record {
     /// No bit means anything.
     pub attributes: i8,

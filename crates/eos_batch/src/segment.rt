@@ -14,7 +14,7 @@ use eos_wire::are_bytes;
 use std::alloc::{AllocError, Global};
 
 /// What a segment holds.
-#[derive(Debug, PartialEq, Eq, Drop)]
+#[derive(Drop)]
 pub struct SegmentText {
     /// All batches, or those before the first fault.
     pub batches: Batches,

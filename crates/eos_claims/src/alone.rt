@@ -12,7 +12,7 @@ use crate::place::{PlaceRef, SourceRef, source_at};
 
 /// What is known of a claim's source: whether its topic is one that the application reads, whether a visible record
 /// stands there, whether that is below its committed offset, and whether the claim's transaction committed past it.
-#[derive(Clone, Copy, PartialEq, Eq)]
+#[derive(Clone, Copy)]
 pub struct SourceTests {
     pub is_source: bool,
     pub is_input: bool,

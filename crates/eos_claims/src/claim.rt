@@ -25,7 +25,7 @@ use eos_wire::Fields;
 use std::alloc::{AllocError, Global};
 
 /// What a record claims to be: output `output` of the `of` outputs of the record at `offset` of a partition.
-#[derive(Clone, Debug, PartialEq, Eq, Drop)]
+#[derive(Clone, PartialEq, Eq, Drop)]
 pub struct Claim {
     pub topic: Bytes,
     pub partition: i32,

@@ -6,7 +6,7 @@ ghost use Rattle.eos_claims.specs.Faults.{number_of, name_of};
 use crate::place::Place;
 
 /// What is wrong, in the order of their numbers.
-#[derive(Clone, Copy, Debug, PartialEq, Eq, PartialOrd, Ord)]
+#[derive(Clone, Copy, PartialEq, Eq, PartialOrd, Ord)]
 pub enum OutputKind {
     /// A claim on a record of a topic that the application doesn't read.
     ForeignSource,
@@ -62,7 +62,7 @@ impl OutputKind {
 
 /// A fault of the outputs. Of those that stand, the least counts: by input, output number, kind and place of the claim, as the
 /// fields stand here.
-#[derive(Clone, Debug, PartialEq, Eq, PartialOrd, Ord, Drop)]
+#[derive(Clone, PartialEq, Eq, PartialOrd, Ord, Drop)]
 pub struct OutputFault {
     /// The input that is claimed, or that lacks an output.
     pub source: Place,

@@ -6,7 +6,7 @@ ghost use Rattle.eos_claims.specs.Plain.{plain_place, plain_source};
 use eos_base::PartitionName;
 
 /// A record's place: its partition and its offset there. Places are ordered by the partition's name, then the offset.
-#[derive(Clone, Debug, PartialEq, Eq, PartialOrd, Ord, Drop)]
+#[derive(Clone, PartialEq, Eq, PartialOrd, Ord, Drop)]
 pub struct Place {
     pub partition: PartitionName,
     pub offset: u64,

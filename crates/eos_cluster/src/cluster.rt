@@ -33,7 +33,7 @@ use std::marker::Model;
 use thiserror::Error;
 
 /// Why there is no cluster.
-#[derive(Clone, Copy, Debug, PartialEq, Eq, Error)]
+#[derive(Clone, Copy, Debug, Error)]
 #[error("{name}", name = self.name())]
 pub enum NewFault {
     /// A size isn't one that a cluster may have.

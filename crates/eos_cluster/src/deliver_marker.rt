@@ -17,7 +17,7 @@ use eos_machine::{Config, Item, Reply, Status, Switches};
 use std::alloc::AllocError;
 
 /// An end marker on its way to a broker.
-#[derive(Clone, Copy, Debug, PartialEq, Eq)]
+#[derive(Clone, Copy)]
 pub struct EndMarker {
     pub application: usize,
     pub epoch: u16,

@@ -20,7 +20,7 @@ use std::alloc::AllocError;
 use thiserror::Error;
 
 /// Why there is no evidence of a cluster.
-#[derive(Clone, Copy, Debug, PartialEq, Eq, Error)]
+#[derive(Clone, Copy, Debug, Error)]
 #[error("{name}", name = self.name())]
 pub enum EvidenceRefusal {
     /// A transaction is open or still ending.

@@ -16,7 +16,7 @@ use eos_machine::{Item, Reply};
 use std::alloc::{AllocError, Global};
 
 /// What the log of the offsets says of a source.
-#[derive(Clone, Copy, Debug, PartialEq, Eq)]
+#[derive(Clone, Copy)]
 struct Fetched {
     /// Whether an open transaction holds a commit for it.
     is_open: bool,

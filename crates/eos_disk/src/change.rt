@@ -8,7 +8,7 @@ use std::alloc::{AllocError, AllocFailed, Global};
 use std::io::{Error, ErrorKind};
 
 /// Why a disk isn't changed.
-#[derive(Clone, Copy, Debug, PartialEq, Eq)]
+#[derive(Clone, Copy)]
 pub enum ChangeFault {
     /// Something stands there.
     ThereAlready,

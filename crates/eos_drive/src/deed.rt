@@ -3,7 +3,7 @@
 use eos_machine::{Event, Note, Reply, Switches};
 
 /// What is done to a cluster, and what happens beside it meanwhile, in order.
-#[derive(Debug, Drop)]
+#[derive(Drop)]
 pub enum Deed {
     /// It was asked for an event, which it took, and answered so.
     Asked { event: Event, reply: Reply },

@@ -5,7 +5,7 @@ use eos_cluster::Cluster;
 use eos_machine::{Event, Reply};
 
 /// An event that a cluster took, what it was answered, and the number of the pass by which it came.
-#[derive(Debug, Drop)]
+#[derive(Drop)]
 pub struct Entry {
     pub pass: u64,
     pub event: Event,
@@ -13,7 +13,7 @@ pub struct Entry {
 }
 
 /// A call as its caller knows it: its place in the history, counted from 0, the event, and what was answered.
-#[derive(Debug, Drop)]
+#[derive(Drop)]
 pub struct Call {
     pub place: u64,
     pub event: Event,
@@ -21,7 +21,7 @@ pub struct Call {
 }
 
 /// What a caller is told: the reply, and the place of its entry, or of the next one where nothing is stored.
-#[derive(Clone, Copy, Debug, PartialEq, Eq)]
+#[derive(Clone, Copy)]
 pub struct Called {
     pub place: u64,
     pub reply: Reply,

@@ -14,7 +14,7 @@ use std::alloc::{AllocError, Global};
 use std::marker::Model;
 
 /// What was done to a cluster, and what happened beside it, in order, which contracts see as that list.
-#[derive(Debug, Drop)]
+#[derive(Drop)]
 pub struct History {
     deeds: Vec<Deed>,
 }

@@ -7,7 +7,7 @@ use bytes::Bytes;
 use std::alloc::{AllocError, Global};
 
 /// A mistake of an application at one input: the outputs are not those that it should have, or its offset is lost.
-#[derive(Clone, Copy, Debug, PartialEq, Eq)]
+#[derive(Clone, Copy)]
 pub enum Mishap {
     /// Its last output is never written.
     LostOutput,
@@ -100,7 +100,7 @@ impl Mishap {
 }
 
 /// An input, by its partition of the topic that its group reads and its offset.
-#[derive(Clone, Copy, Debug, PartialEq, Eq)]
+#[derive(Clone, Copy, PartialEq, Eq)]
 pub struct Input {
     pub source: usize,
     pub offset: u64,
@@ -132,7 +132,7 @@ fn number_in(text: &str) -> Option<u64> {
 }
 
 /// A mishap, and the input at which it happens; where none is chosen, the first that suits it.
-#[derive(Clone, Copy, Debug, PartialEq, Eq)]
+#[derive(Clone, Copy)]
 pub struct ChosenMishap {
     pub mishap: Mishap,
     pub at: Option<Input>,

@@ -12,7 +12,7 @@ const MOST_MARKERS: u64 = 9 * 64;
 const FOR_OFFSETS_ALONE: u64 = 16;
 
 /// Who sends and who receives.
-#[derive(Clone, Copy, Debug, PartialEq, Eq, PartialOrd, Ord)]
+#[derive(Clone, Copy, PartialEq, Eq, PartialOrd, Ord)]
 struct Ends {
     /// The session that sends, or else the coordinator.
     session: Option<usize>,

@@ -4,7 +4,7 @@ ghost use Rattle.std.specs.Prelude.{◌≡◌, ◌↔◌, ◌≤◌, ◌+◌, tr
 ghost use Rattle.eos_drive.specs.Rates.{share_of, sum_of};
 
 /// What happens to a run at a word.
-#[derive(Clone, Copy, Debug, PartialEq, Eq)]
+#[derive(Clone, Copy)]
 pub(crate) enum Happening {
     /// An input comes in.
     Feed,
@@ -43,7 +43,7 @@ pub(crate) struct Said {
 
 /// Of a thousand words of a script how many say that this happens, each from 0 to 1,000; `None` is today's rate, which stands
 /// beside it. All other words say what a run without mishaps consists of: inputs, turns, and messages that arrive.
-#[derive(Clone, Copy, Debug, PartialEq, Eq)]
+#[derive(Clone, Copy, PartialEq, Eq)]
 pub struct Rates {
     /// The next message is lost: 15.625.
     pub lose: Option<u16>,

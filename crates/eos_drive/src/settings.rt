@@ -25,7 +25,7 @@ pub struct Settings<'a> {
 }
 
 /// That the switches of a cluster are set.
-#[derive(Clone, Copy, Debug, PartialEq, Eq)]
+#[derive(Clone, Copy)]
 pub struct Turning {
     /// After so many words; after more than the script has they never are.
     pub after: u64,

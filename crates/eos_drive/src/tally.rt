@@ -8,7 +8,7 @@ use eos_machine::{Event, Note, Reply};
 use std::alloc::{AllocError, Global};
 
 /// How often what happened in a run.
-#[derive(Clone, Copy, Debug, PartialEq, Eq)]
+#[derive(Clone, Copy)]
 pub struct Tally {
     /// The events that the cluster took.
     pub events: u64,

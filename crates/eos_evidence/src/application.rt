@@ -10,7 +10,7 @@ use std::alloc::{AllocError, Global};
 use std::marker::Model;
 
 /// The id of a consumer group: any text. Contracts see it as its bytes.
-#[derive(Debug, Drop)]
+#[derive(Drop)]
 pub struct GroupId {
     text: String,
 }
@@ -77,7 +77,7 @@ impl Eq for GroupId {
 }
 
 /// An application: its consumer group, the topics that it reads and those that it writes.
-#[derive(Clone, Debug, PartialEq, Eq, Drop)]
+#[derive(Clone, Drop)]
 pub struct App {
     pub group: GroupId,
     pub sources: Topics,

@@ -18,7 +18,7 @@ use std::alloc::{AllocError, Global};
 use std::marker::Model;
 
 /// Makes evidence of a spec and segments that come in any order.
-#[derive(Debug, Drop)]
+#[derive(Drop)]
 pub struct EvidenceBuilder {
     spec: Spec,
     partitions: Vec<Partition>,

@@ -11,7 +11,7 @@ use eos_base::Listed;
 
 /// Where a partition ends: the offset after its last record. Ends are ordered by topic bytes, then
 /// number, then offset.
-#[derive(Clone, Debug, PartialEq, Eq, PartialOrd, Ord, Drop)]
+#[derive(Clone, PartialEq, Eq, PartialOrd, Ord, Drop)]
 pub struct End {
     pub topic: Bytes,
     pub partition: i32,

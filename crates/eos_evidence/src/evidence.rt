@@ -14,7 +14,7 @@ use std::marker::Model;
 pub const MAX_SEGMENTS: u64 = 65_536;
 
 /// A spec and the segments of its partitions, as `EvidenceBuilder::finish` gives it.
-#[derive(Debug, Drop)]
+#[derive(Drop)]
 pub struct Evidence {
     spec: Spec,
     partitions: Vec<Partition>,

@@ -11,7 +11,7 @@ use std::fmt::{Display, Formatter, Write};
 use thiserror::Error;
 
 /// Why a manifest is refused: the first of its tests that fails.
-#[derive(Clone, Copy, Debug, PartialEq, Eq, Error)]
+#[derive(Clone, Copy, Debug, Error)]
 pub enum SpecFault {
     /// The bytes are no JSON text.
     Json,
@@ -65,7 +65,7 @@ impl<T: Drop> From<AllocFailed<T>> for SpecFault {
 }
 
 /// Why a segment is refused: the first of its tests that fails.
-#[derive(Clone, Copy, Debug, PartialEq, Eq, Error)]
+#[derive(Clone, Copy, Debug, Error)]
 pub enum AddFault {
     /// The manifest has no such partition, or the base is below 0.
     Name,
@@ -116,7 +116,7 @@ impl<T: Drop> From<AllocFailed<T>> for AddFault {
 }
 
 /// Why a segment was not read.
-#[derive(Clone, Copy, Debug, PartialEq, Eq, Error)]
+#[derive(Clone, Copy, Debug, Error)]
 pub enum ReadFault {
     /// The reader failed.
     Read,

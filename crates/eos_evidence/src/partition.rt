@@ -13,7 +13,7 @@ use std::alloc::{AllocError, Global};
 use std::cmp::Ordering;
 
 /// A partition: its name and end, and its segments by base.
-#[derive(Debug, Drop)]
+#[derive(Drop)]
 pub struct Partition {
     pub end: End,
     pub segments: Listed<Segment>,

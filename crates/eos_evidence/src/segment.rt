@@ -9,7 +9,7 @@ use std::alloc::AllocError;
 
 /// A segment: the bytes of one file of a partition's log, whose name is the offset of its first
 /// record.
-#[derive(Debug, PartialEq, Eq, Drop)]
+#[derive(Drop)]
 pub struct Segment {
     pub topic: Bytes,
     pub partition: i32,

@@ -20,7 +20,7 @@ pub const MAX_PARTITIONS: usize = 4096;
 pub const MAX_APPS: usize = 256;
 
 /// The applications, in the order given, and the end of each partition, by topic bytes, then number.
-#[derive(Debug, Drop)]
+#[derive(Drop)]
 pub struct Spec {
     apps: Apps,
     ends: Ends,

@@ -11,7 +11,7 @@ use std::alloc::AllocError;
 
 /// A transactional data batch's producer id and epoch, and the epoch and kind of its next end marker: the one of its
 /// producer id with the least greater offset. The order is that of the fields, Commit before Abort.
-#[derive(Clone, Copy, Debug, PartialEq, Eq, PartialOrd, Ord)]
+#[derive(Clone, Copy, PartialEq, Eq, PartialOrd, Ord)]
 pub struct Close {
     pub producer: i64,
     pub epoch: i16,

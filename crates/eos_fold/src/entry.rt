@@ -3,7 +3,7 @@
 use eos_batch::Kind;
 
 /// How the transaction of a data batch ended, as far as it is known.
-#[derive(Clone, Copy, Debug, PartialEq, Eq)]
+#[derive(Clone, Copy)]
 pub enum Ending {
     /// The batch is of no transaction.
     Plain,

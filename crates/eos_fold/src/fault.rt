@@ -8,7 +8,7 @@ ghost use Rattle.eos_fold.specs.Earlier.{earlier, earlier_of};
 use eos_touch::{PairFault, Touch, pair_ok};
 
 /// A touch that may not follow the one of its id before it.
-#[derive(Clone, Copy, Debug, PartialEq, Eq)]
+#[derive(Clone, Copy)]
 pub struct Fault {
     pub offset: u64,
     pub producer: i64,

@@ -11,7 +11,7 @@ use eos_batch::{BatchHead, Kind};
 use std::marker::Model;
 
 /// How a batch's transaction ended, beside the numbers of its ending.
-#[derive(Clone, Copy, Debug)]
+#[derive(Clone, Copy)]
 enum State {
     Plain,
     Waiting,
@@ -21,7 +21,7 @@ enum State {
 
 /// What the records of a data batch have in common. A log has many, so it is small; contracts see its base offset, the number
 /// of its records, its writer and its ending.
-#[derive(Debug, Drop)]
+#[derive(Drop)]
 pub struct DataHead {
     offset: u64,
     /// The producer id, which is also the one whose end marker a waiting batch waits for.

@@ -4,7 +4,7 @@ use bytes::Bytes;
 use eos_batch::Headers;
 
 /// What became of a data record, as a reader of committed records sees it (KIP-98, `read_committed`).
-#[derive(Clone, Copy, Debug, PartialEq, Eq)]
+#[derive(Clone, Copy, PartialEq, Eq)]
 pub enum Fate {
     /// Its batch is of no transaction.
     Plain,
@@ -17,7 +17,7 @@ pub enum Fate {
 }
 
 /// A data record.
-#[derive(Clone, Debug, PartialEq, Eq, Drop)]
+#[derive(Clone, Drop)]
 pub struct Item {
     pub offset: u64,
     pub fate: Fate,

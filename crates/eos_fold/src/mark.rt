@@ -7,7 +7,7 @@ use eos_batch::Kind;
 use eos_touch::Touch;
 
 /// An end marker.
-#[derive(Clone, Copy, Debug, PartialEq, Eq)]
+#[derive(Clone, Copy)]
 pub struct EndMark {
     pub offset: u64,
     pub producer: i64,

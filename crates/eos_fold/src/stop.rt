@@ -6,7 +6,7 @@ ghost use Rattle.eos_fold.specs.declared.stop.Stop.TheVariants.{AtEnd};
 use eos_batch::BatchFault;
 
 /// Why a front ends.
-#[derive(Clone, Copy, Debug, PartialEq, Eq)]
+#[derive(Clone, Copy)]
 pub enum Stop {
     /// It uses all bytes of all segments.
     AtEnd,

@@ -30,7 +30,7 @@ const LEAST_BATCH: usize = 61;
 const LEAST_RECORD: usize = 7;
 
 /// What a batch is. An end marker has the epoch of the transaction coordinator that wrote it.
-#[derive(Clone, Copy, Debug, PartialEq, Eq)]
+#[derive(Clone, Copy)]
 pub enum BatchKind {
     Data,
     /// A control batch that ends no transaction.
@@ -40,7 +40,7 @@ pub enum BatchKind {
 }
 
 /// A batch's head, wherever the batch stands.
-#[derive(Clone, Copy, Debug, PartialEq, Eq)]
+#[derive(Clone, Copy)]
 pub struct FoldHead {
     pub kind: BatchKind,
     pub is_transactional: bool,

@@ -20,7 +20,7 @@ use eos_wire::{Cursor, crc32c};
 use std::alloc::Global;
 
 /// A field of a fold file, in the file's order.
-#[derive(Clone, Copy, Debug, PartialEq, Eq)]
+#[derive(Clone, Copy)]
 pub enum FoldField {
     Magic,
     Version,
@@ -41,7 +41,7 @@ pub enum FoldField {
 }
 
 /// Why bytes are no fold file, and where.
-#[derive(Clone, Copy, Debug, PartialEq, Eq)]
+#[derive(Clone, Copy)]
 pub struct RefusedField {
     pub fault: FoldFault,
     pub field: FoldField,

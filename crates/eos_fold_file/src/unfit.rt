@@ -6,7 +6,7 @@ ghost use Rattle.eos_fold_file.specs.declared.unfit.Unfit.TheVariants.{OutOfMemo
 use std::alloc::AllocError;
 
 /// Why a fold can't be taken for what is asked.
-#[derive(Clone, Copy, Debug, PartialEq, Eq)]
+#[derive(Clone, Copy)]
 pub enum Unfit {
     /// It was folded for other roles, or for other source topics.
     Roles,

@@ -9,7 +9,7 @@ use std::alloc::{AllocError, AllocFailed};
 use std::fmt::{Display, Formatter, Write};
 
 /// Why a line is refused.
-#[derive(Clone, Copy, Debug)]
+#[derive(Clone, Copy)]
 pub enum LineFault {
     /// It is no JSON text.
     NotJson,

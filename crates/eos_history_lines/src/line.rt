@@ -3,7 +3,7 @@
 use eos_machine::{Config, Event, Note, Reply, Switches};
 
 /// What a simulated cluster was, and what it was asked for: the first line.
-#[derive(Clone, Copy, Debug)]
+#[derive(Clone, Copy)]
 pub struct Head {
     pub config: Config,
     /// The rules that the run was asked to break.
@@ -15,7 +15,7 @@ pub struct Head {
 }
 
 /// What was done.
-#[derive(Debug, Drop)]
+#[derive(Drop)]
 pub enum Deed {
     /// This happened, and the cluster answered so, if that is said.
     Asked { event: Event, reply: Option<Reply> },
@@ -26,7 +26,7 @@ pub enum Deed {
 }
 
 /// A line between the first and the last.
-#[derive(Debug, Drop)]
+#[derive(Drop)]
 pub struct Line {
     /// Which of these lines it was when it was written, from 1 on.
     pub number: u64,
@@ -34,7 +34,7 @@ pub struct Line {
 }
 
 /// What came of it: the last line.
-#[derive(Clone, Copy, Debug)]
+#[derive(Clone, Copy)]
 pub struct Tail {
     pub events: u64,
     pub transactions: u64,
@@ -45,7 +45,7 @@ pub struct Tail {
 }
 
 /// A line after the first.
-#[derive(Debug, Drop)]
+#[derive(Drop)]
 pub enum Row {
     Line(Line),
     Tail(Tail),

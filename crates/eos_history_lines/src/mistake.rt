@@ -6,7 +6,7 @@ ghost use Rattle.eos_history_lines.specs.FaultTexts.{mistake_text};
 use std::fmt::{Display, Formatter, Write};
 
 /// What is wrong with a line that is JSON: the first that is found.
-#[derive(Clone, Copy, Debug)]
+#[derive(Clone, Copy)]
 pub enum Mistake {
     /// It is no object.
     NoObject,

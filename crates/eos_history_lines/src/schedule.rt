@@ -17,7 +17,7 @@ use std::alloc::Global;
 use std::fmt::{Display, Formatter, Write};
 
 /// What a simulated cluster was, and what is to happen to it.
-#[derive(Debug, Drop)]
+#[derive(Drop)]
 pub struct Schedule {
     pub head: Head,
     pub lines: Listed<Line>,
@@ -25,7 +25,7 @@ pub struct Schedule {
 }
 
 /// Why a file of lines is refused: the first line that is, counted from 1.
-#[derive(Clone, Copy, Debug)]
+#[derive(Clone, Copy)]
 pub struct ScheduleFault {
     pub line: u64,
     pub fault: LineFault,

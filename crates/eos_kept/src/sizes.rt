@@ -5,7 +5,7 @@ ghost use Rattle.eos_evidence.specs.declared.segment.Segment.{Segment};
 ghost use Rattle.eos_kept.specs.Sizes.{AreSized};
 
 /// How many segments there are, and how many bytes they have.
-#[derive(Clone, Copy, Debug)]
+#[derive(Clone, Copy)]
 pub struct Sizes {
     pub segments: u64,
     pub bytes: u64,

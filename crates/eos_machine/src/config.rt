@@ -5,7 +5,7 @@ ghost use Rattle.eos_machine.specs.LogIndexes.{IsConfig, application_count, fina
 
 /// The sizes of a simulated cluster. Its partitions are, by place in its list of logs: the one of `__consumer_offsets`,
 /// those of `__transaction_state`, those of `fin` where there is a second group, those of `in`, those of `out`.
-#[derive(Clone, Copy, Debug, PartialEq, Eq)]
+#[derive(Clone, Copy)]
 pub struct Config {
     /// How many applications the first group has, which reads `in` and writes `out`, from 1 to 8.
     pub applications: usize,

@@ -6,7 +6,7 @@ use eos_batch::Kind;
 
 /// What may happen to a cluster. Numbers count from 0: applications, sessions in the order of their start, messages in the
 /// order in which they were queued, the partitions of a topic.
-#[derive(Clone, Debug, PartialEq, Eq, Drop)]
+#[derive(Clone, PartialEq, Eq, Drop)]
 pub enum Event {
     /// An input comes in.
     Feed {
@@ -89,7 +89,7 @@ pub enum Event {
 }
 
 /// What a cluster answers.
-#[derive(Clone, Copy, Debug, PartialEq, Eq)]
+#[derive(Clone, Copy, PartialEq, Eq)]
 pub enum Reply {
     /// It was done: a number or an offset, as the event says.
     Done(u64),
@@ -116,7 +116,7 @@ pub enum Reply {
 }
 
 /// What happens beside a cluster.
-#[derive(Clone, Debug, Drop)]
+#[derive(Clone, Drop)]
 pub enum Note {
     /// The network lost the message of this number. It may arrive all the same, when it is sent again.
     Lost(u64),

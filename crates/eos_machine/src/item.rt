@@ -8,7 +8,7 @@ use eos_batch::Kind;
 pub type LogIndexes = Listed<usize>;
 
 /// Where an output record comes from: the five lineage headers of its record.
-#[derive(Clone, Debug, PartialEq, Eq, Drop)]
+#[derive(Clone, PartialEq, Eq, Drop)]
 pub struct Claim {
     /// The topic of the input.
     pub topic: Bytes,
@@ -21,7 +21,7 @@ pub struct Claim {
 }
 
 /// Where the transaction of an application stands, as its coordinator writes it (Kafka's `TransactionState`).
-#[derive(Clone, Copy, Debug, PartialEq, Eq)]
+#[derive(Clone, Copy)]
 pub enum Status {
     Empty,
     Ongoing,
@@ -30,7 +30,7 @@ pub enum Status {
 }
 
 /// A record of the transaction log: an application's state. Its epoch is a producer epoch, at most 32767.
-#[derive(Debug, Drop)]
+#[derive(Drop)]
 pub struct Entry {
     pub status: Status,
     pub epoch: u16,
@@ -38,7 +38,7 @@ pub struct Entry {
 }
 
 /// A batch of one record. `event` is the number of the event that appended it, which is its timestamp.
-#[derive(Debug, Drop)]
+#[derive(Drop)]
 pub enum Item {
     /// A record of `in`, of no producer. Its value is the number of its event.
     Fed {

@@ -9,7 +9,7 @@ use eos_batch::Kind;
 
 /// What the transaction coordinator holds of an application: the last record that it wrote, and the partitions whose end
 /// marker it waits for.
-#[derive(Debug, Drop)]
+#[derive(Drop)]
 pub struct Coordinator {
     /// Whether it wrote any record.
     pub started: bool,
@@ -20,7 +20,7 @@ pub struct Coordinator {
 }
 
 /// What a broker holds of a producer id in one partition.
-#[derive(Clone, Copy, Debug, PartialEq, Eq)]
+#[derive(Clone, Copy)]
 pub struct Producer {
     /// The highest epoch, 0 at first.
     pub high: u16,
@@ -31,7 +31,7 @@ pub struct Producer {
 }
 
 /// A client that works for an application.
-#[derive(Debug, Drop)]
+#[derive(Drop)]
 pub struct Session {
     pub application: usize,
     pub epoch: u16,
@@ -46,7 +46,7 @@ pub struct Session {
 }
 
 /// An election of a leader, as a partition keeps it (Kafka's `leader-epoch-checkpoint`), and what it lost.
-#[derive(Clone, Copy, Debug, PartialEq, Eq)]
+#[derive(Clone, Copy)]
 pub struct Election {
     /// The partition, by its place among all logs.
     pub place: usize,
@@ -59,7 +59,7 @@ pub struct Election {
 }
 
 /// A request on its way.
-#[derive(Debug, Drop)]
+#[derive(Drop)]
 pub enum Message {
     /// A record for a partition of the topic that the application's group writes; without a claim it has no headers.
     Output {

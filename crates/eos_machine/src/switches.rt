@@ -4,7 +4,7 @@ ghost use Rattle.std.specs.Prelude.{◌≡◌};
 ghost use Rattle.eos_machine.specs.Switching.{switch_name, none, only, any_on};
 
 /// A rule that a cluster may be told to break.
-#[derive(Clone, Copy, Debug, PartialEq, Eq)]
+#[derive(Clone, Copy)]
 pub enum Switch {
     /// A repeated sequence is appended.
     KeepDuplicates,
@@ -40,7 +40,7 @@ impl Switch {
 }
 
 /// Which rules a cluster breaks.
-#[derive(Clone, Copy, Debug, PartialEq, Eq)]
+#[derive(Clone, Copy)]
 pub struct Switches {
     /// A repeated sequence is appended.
     pub keep_duplicates: bool,

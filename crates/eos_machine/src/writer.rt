@@ -1,7 +1,7 @@
 //! By whom a batch is written.
 
 /// The fields of a batch that say who wrote it.
-#[derive(Clone, Copy, Debug, PartialEq, Eq)]
+#[derive(Clone, Copy)]
 pub struct Writer {
     /// 0 of a plain batch, 16 of transactional data, 48 of an end marker.
     pub attributes: i16,

@@ -10,7 +10,7 @@ use eos_evidence::SpecFault;
 use std::alloc::Global;
 
 /// Why a manifest is refused.
-#[derive(Debug, Drop)]
+#[derive(Drop)]
 pub struct SpecCause {
     /// Of which fault it is the cause.
     pub fault: SpecFault,

@@ -18,7 +18,7 @@ use eos_evidence::{App, Apps, End, Spec, SpecFault, is_internal_topic};
 use std::alloc::{AllocError, AllocFailed, Global};
 
 /// Why there is no manifest.
-#[derive(Debug, Drop)]
+#[derive(Drop)]
 pub enum ManifestFault {
     /// This partition has no end.
     NoEnd(PartitionName),

@@ -13,7 +13,7 @@ use eos_evidence::End;
 use std::alloc::{AllocError, AllocFailed, Global};
 
 /// Why the ends of a file aren't known.
-#[derive(Clone, Copy, Debug, PartialEq, Eq)]
+#[derive(Clone, Copy)]
 pub enum EndsFault {
     /// The line of this number, counted from 1, is no TOPIC:PARTITION:OFFSET.
     Line(u64),

@@ -8,7 +8,7 @@ use eos_base::PartitionName;
 use eos_evidence::GroupId;
 
 /// A sign that an evidence isn't the one that was meant. The variants stand in the order in which notes are listed.
-#[derive(Debug, Drop)]
+#[derive(Drop)]
 pub enum Note {
     /// The manifest names no application: of the evidence only the logs, the transaction log and the matching are judged.
     NoApplication,
@@ -58,7 +58,7 @@ pub enum Note {
 
 /// A committed offset of a partition, and the leader epochs of the record that the group had read before it and of the one that
 /// stands there.
-#[derive(Debug, Drop)]
+#[derive(Drop)]
 pub struct OtherRecord {
     pub group: GroupId,
     pub offset: i64,
@@ -70,7 +70,7 @@ pub struct OtherRecord {
 }
 
 /// A topic in which Kafka keeps its own records.
-#[derive(Clone, Copy, Debug, PartialEq, Eq)]
+#[derive(Clone, Copy)]
 pub enum InternalTopic {
     /// The offsets that consumer groups have committed.
     ConsumerOffsets,

@@ -27,7 +27,7 @@ use std::alloc::{AllocError, Global};
 const KEY_VERSION: i16 = 1;
 
 /// A group and a partition that it reads.
-#[derive(Clone, Debug, PartialEq, Eq, Drop)]
+#[derive(Clone, Drop)]
 pub struct OffsetKey {
     pub group: Bytes,
     pub topic: Bytes,

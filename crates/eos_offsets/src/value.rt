@@ -43,7 +43,7 @@ const NO_METADATA: i16 = 0;
 const NO_TIMESTAMP: i64 = 0;
 
 /// What a group commits: up to where it has read a partition.
-#[derive(Clone, Debug, PartialEq, Eq, Drop)]
+#[derive(Clone, Drop)]
 pub struct Commit {
     pub group: Bytes,
     pub topic: Bytes,

@@ -12,7 +12,7 @@ use eos_base::RecordFault;
 use eos_wire::Fields;
 
 /// A group and a partition that it reads, with lent texts.
-#[derive(Clone, Copy, Debug, PartialEq, Eq)]
+#[derive(Clone, Copy)]
 pub struct KeyRef<'a> {
     pub group: &'a [u8],
     pub topic: &'a [u8],

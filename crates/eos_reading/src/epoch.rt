@@ -6,7 +6,7 @@ ghost use Rattle.eos_reading.specs.Epochs.{is_change, epoch_behind, entries_behi
 use std::alloc::AllocError;
 
 /// A leader epoch, and the offset of the first batch that has it.
-#[derive(Clone, Copy, Debug, PartialEq, Eq)]
+#[derive(Clone, Copy)]
 pub struct EpochEntry {
     pub epoch: i32,
     pub start_offset: u64,

@@ -5,7 +5,7 @@ use crate::reading::Reading;
 use std::alloc::{AllocError, Global};
 
 /// Keeps nothing of a record, but that it is there.
-#[derive(Clone, Copy, Debug, PartialEq, Eq)]
+#[derive(Clone, Copy)]
 pub struct Nothing;
 
 impl Reading for Nothing {

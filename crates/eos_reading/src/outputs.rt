@@ -8,7 +8,7 @@ use eos_claims::view_claim;
 use std::alloc::{AllocError, Global};
 
 /// Keeps the claim in a record's headers, where there is one.
-#[derive(Clone, Copy, Debug)]
+#[derive(Clone, Copy)]
 pub struct Outputs<'a> {
     /// The topics that are asked for.
     pub topics: &'a [Bytes],

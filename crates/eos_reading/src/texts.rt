@@ -6,7 +6,7 @@ use eos_claims::view_claim;
 use std::alloc::{AllocError, Global};
 
 /// Keeps a record's key and value, and the claim in its headers, where there is one.
-#[derive(Clone, Copy, Debug, PartialEq, Eq)]
+#[derive(Clone, Copy)]
 pub struct Texts;
 
 impl Reading for Texts {

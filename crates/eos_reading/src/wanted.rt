@@ -2,7 +2,7 @@
 
 /// What is wanted of the data records of a log, beside their offsets and what became of them. Each wants what the one before it
 /// does.
-#[derive(Clone, Copy, Debug, PartialEq, Eq)]
+#[derive(Clone, Copy)]
 pub enum Wanted {
     /// That they are there: those that an application reads.
     Presence,

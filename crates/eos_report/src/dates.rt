@@ -11,7 +11,7 @@ use std::alloc::AllocError;
 
 /// The times of the records that a fault names, in milliseconds since 1970-01-01T00:00Z, as their batches say them: clocks lie. A record
 /// whose time isn't known has none.
-#[derive(Clone, Copy, Debug, PartialEq, Eq)]
+#[derive(Clone, Copy)]
 pub struct Timestamps {
     /// Of the record at the fault's offset; of an output's fault, of the input that is its source.
     pub own: Option<i64>,

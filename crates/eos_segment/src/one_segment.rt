@@ -21,7 +21,7 @@ use std::io::Read;
 /// A module of its own, since the names `Chain` and `chain` differ in case alone.
 mod counts {
     /// What is counted in a good segment: its batches, and the unequal producer ids among their touches.
-    #[derive(Clone, Copy, Debug, PartialEq, Eq)]
+    #[derive(Clone, Copy)]
     pub struct Chain {
         pub batches: u64,
         pub producers: u64,

@@ -15,7 +15,7 @@ use eos_machine::{Config, Event};
 use std::alloc::{AllocError, Global};
 
 /// Lines, by their places: from this one on, and before that one.
-#[derive(Clone, Copy, Debug)]
+#[derive(Clone, Copy)]
 pub(crate) struct Span {
     pub(crate) from: usize,
     pub(crate) to: usize,

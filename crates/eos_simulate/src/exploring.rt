@@ -21,7 +21,7 @@ use std::thread::Threads;
 const ALPHABET: [u32; 11] = [0, 3075, 3, 19, 27, 28, 30, 31, 95, 127, 191];
 
 /// What was run so far, to a yes.
-#[derive(Clone, Copy, Debug, PartialEq, Eq)]
+#[derive(Clone, Copy)]
 pub struct Explored {
     /// How many schedules.
     pub schedules: u64,

@@ -13,7 +13,7 @@ use eos_machine::{Config, Event, Reply};
 use std::alloc::{AllocError, Global};
 
 /// A message that was taken, and where it stands.
-#[derive(Clone, Copy, Debug, PartialEq, Eq)]
+#[derive(Clone, Copy)]
 pub struct Taken {
     /// Its number.
     pub message: u64,
@@ -24,7 +24,7 @@ pub struct Taken {
 }
 
 /// The last records of a partition's log, which were acknowledged and are lost.
-#[derive(Debug, Drop)]
+#[derive(Drop)]
 pub struct LostTail {
     pub topic: Bytes,
     pub partition: usize,
@@ -34,7 +34,7 @@ pub struct LostTail {
 }
 
 /// What was wrong.
-#[derive(Debug, Drop)]
+#[derive(Drop)]
 pub enum Wrong {
     /// This rule is broken: a cluster that keeps it refuses the message, or writes it otherwise.
     Broken(Switch, Taken),
@@ -51,7 +51,7 @@ pub enum Wrong {
 }
 
 /// What was wrong, and the number of its line in the history.
-#[derive(Debug, Drop)]
+#[derive(Drop)]
 pub struct Label {
     pub number: u64,
     pub wrong: Wrong,

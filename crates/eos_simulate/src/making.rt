@@ -22,7 +22,7 @@ use std::alloc::{AllocError, AllocFailed, Global};
 use std::io::Write;
 
 /// Why a simulated cluster leaves no evidence.
-#[derive(Clone, Copy, Debug, PartialEq, Eq)]
+#[derive(Clone, Copy)]
 pub enum SimulationFault {
     /// A transaction is open or still ending.
     NotAtRest,

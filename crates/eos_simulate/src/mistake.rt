@@ -10,7 +10,7 @@ use eos_text::push_value;
 use std::alloc::{AllocError, Global};
 
 /// A byte of a file, by the file's name, and what stands there then.
-#[derive(Clone, Copy, Debug, PartialEq, Eq)]
+#[derive(Clone, Copy)]
 pub struct Turned {
     pub base: i64,
     pub at: usize,
@@ -18,7 +18,7 @@ pub struct Turned {
 }
 
 /// What is done wrong with the files and the end of a partition. A file is called by its name, the offset of its first record.
-#[derive(Clone, Copy, Debug, PartialEq, Eq)]
+#[derive(Clone, Copy)]
 pub enum What {
     /// This file isn't copied.
     LostSegment(i64),
@@ -43,7 +43,7 @@ pub enum What {
 }
 
 /// A mistake, and the partition in which it is made.
-#[derive(Clone, Copy, Debug)]
+#[derive(Clone, Copy)]
 pub struct Mistake<'a> {
     pub what: What,
     pub topic: &'a str,

@@ -20,7 +20,7 @@ use eos_machine::{Event, Note, Reply};
 use std::alloc::{AllocError, AllocFailed, Global};
 
 /// Why a schedule leaves no evidence.
-#[derive(Debug, Drop)]
+#[derive(Drop)]
 pub enum ReplayFault {
     /// A transaction is open or still ending.
     NotAtRest,

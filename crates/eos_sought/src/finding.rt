@@ -14,14 +14,14 @@ use eos_kept::{ItemRef, Part};
 use std::alloc::{AllocError, Global};
 
 /// A data record of a partition's log.
-#[derive(Debug, Drop)]
+#[derive(Drop)]
 pub struct Find {
     pub partition: PartitionName,
     pub item: Item,
 }
 
 /// The first of those that were found, and how many there are.
-#[derive(Debug, Drop)]
+#[derive(Drop)]
 pub struct Finds {
     /// So many are kept at most.
     pub most: u64,

@@ -22,7 +22,7 @@ use eos_txnlog::TxnValue;
 use std::alloc::{AllocError, Global};
 
 /// The epochs of a producer id from one to another, both of them included.
-#[derive(Clone, Copy, Debug)]
+#[derive(Clone, Copy)]
 pub struct Epochs {
     pub producer: i64,
     pub from: i16,
@@ -30,7 +30,7 @@ pub struct Epochs {
 }
 
 /// Which data records of the logs are sought.
-#[derive(Debug, Drop)]
+#[derive(Drop)]
 pub enum Sought {
     /// The one of this place.
     At(Place),

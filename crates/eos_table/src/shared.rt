@@ -14,7 +14,7 @@ use std::marker::Model;
 use std::sync::Arc;
 
 /// How a transaction ends, decided by a Prepare record, which contracts see as a `Decision`.
-#[derive(Debug, Drop)]
+#[derive(Drop)]
 pub struct SharedDecision {
     id: Bytes,
     producer: i64,

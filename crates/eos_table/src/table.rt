@@ -7,7 +7,7 @@ use std::alloc::AllocError;
 use std::marker::Model;
 
 /// The decisions, which contracts see as their list.
-#[derive(Debug, Drop)]
+#[derive(Drop)]
 pub struct TxnTable {
     decisions: Vec<SharedDecision>,
 }

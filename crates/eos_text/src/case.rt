@@ -1,7 +1,7 @@
 //! What the rows of a story may show, and what it means then.
 
 /// What may hold of the rows of a story.
-#[derive(Clone, Copy, Debug, PartialEq, Eq)]
+#[derive(Clone, Copy)]
 pub enum Sign {
     /// The output at the fault's place, and another claim of its number, are of one producer and epoch.
     OneTransaction,

@@ -8,7 +8,7 @@ use std::io::{ErrorKind, Write};
 use thiserror::Error;
 
 /// A writer failed, or takes nothing more.
-#[derive(Clone, Copy, Debug, PartialEq, Eq, Error)]
+#[derive(Clone, Copy, Debug, Error)]
 #[error("Write")]
 pub struct WriteFault;
 

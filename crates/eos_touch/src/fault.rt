@@ -8,7 +8,7 @@ use bytes::Bytes;
 use eos_batch::BatchFault;
 
 /// A fault of one partition's log. Of those that stand, the one with the least offset counts, then the least kind.
-#[derive(Debug, PartialEq, Eq, Drop)]
+#[derive(PartialEq, Eq, Drop)]
 pub struct PartitionFault {
     pub topic: Bytes,
     pub partition: i32,
@@ -19,7 +19,7 @@ pub struct PartitionFault {
 
 /// The kind of a partition's fault, with what its text prints. The front of a partition is the longest list of its
 /// batches from the start in which each base offset is the number of records before.
-#[derive(Clone, Copy, Debug, PartialEq, Eq)]
+#[derive(Clone, Copy, PartialEq, Eq)]
 pub enum PartitionFaultKind {
     /// The front ends before bytes that are no batch: in the segment that begins at this offset, at this place of its
     /// bytes, for this reason.

@@ -3,7 +3,7 @@
 use eos_batch::Kind;
 
 /// A batch of an idempotent producer as its partition sees it: data, or the end of a transaction.
-#[derive(Clone, Copy, Debug, PartialEq, Eq)]
+#[derive(Clone, Copy)]
 pub enum Touch {
     /// A data batch: its producer epoch, whether it is transactional, the sequence of its first record, and the number
     /// of its records.

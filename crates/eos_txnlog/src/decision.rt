@@ -5,7 +5,7 @@ use bytes::Bytes;
 use eos_batch::Kind;
 
 /// How a transaction ends, decided by a Prepare record.
-#[derive(Clone, Debug, PartialEq, Eq, Drop)]
+#[derive(Clone, Drop)]
 pub struct Decision {
     /// The transactional id.
     pub id: Bytes,

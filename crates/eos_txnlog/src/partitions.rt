@@ -7,7 +7,7 @@ use eos_base::Listed;
 pub type Numbers = Listed<i32>;
 
 /// A topic and the numbers of its partitions that are in a transaction.
-#[derive(Clone, Debug, PartialEq, Eq, Drop)]
+#[derive(Clone, PartialEq, Eq, Drop)]
 pub struct TopicPartitions {
     pub topic: Bytes,
     pub numbers: Numbers,

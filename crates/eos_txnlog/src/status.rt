@@ -5,7 +5,7 @@ ghost use Rattle.eos_txnlog.specs.Status.{status_number, status_of, is_open, is_
 ghost use Rattle.eos_txnlog.specs.Skips.{means_nothing};
 
 /// The state of a transactional id, in the order of Kafka's numbers, from 0.
-#[derive(Clone, Copy, Debug, PartialEq, Eq)]
+#[derive(Clone, Copy)]
 pub enum Status {
     Empty,
     Ongoing,

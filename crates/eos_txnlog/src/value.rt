@@ -4,7 +4,7 @@ use crate::partitions::Partitions;
 use crate::status::Status;
 
 /// The value of a record of the log: the state of one transactional id. Times are milliseconds.
-#[derive(Clone, Debug, PartialEq, Eq, Drop)]
+#[derive(Clone, Drop)]
 pub struct TxnValue {
     pub producer: i64,
     pub epoch: i16,

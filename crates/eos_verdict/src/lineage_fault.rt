@@ -10,7 +10,7 @@ use eos_evidence::GroupId;
 /// A fault of the lineage. Of those that stand, the least counts: those of single records first, by partition and offset;
 /// then those of outputs, by the application's place among the applications, the input, the output's number, the kind
 /// and the place of the claim.
-#[derive(Debug, PartialEq, Eq, Drop)]
+#[derive(PartialEq, Eq, Drop)]
 pub enum LineageFault {
     /// A visible record can't be read for what it has to be.
     Record(VisibleFault),

@@ -9,7 +9,7 @@ use eos_txnlog::TxnFault;
 
 /// A fault of the log `__transaction_state`. Of those that stand, the least counts: by partition, offset and kind, as the
 /// fields stand here.
-#[derive(Debug, PartialEq, Eq, PartialOrd, Ord, Drop)]
+#[derive(PartialEq, Eq, PartialOrd, Ord, Drop)]
 pub struct LogFault {
     /// The number of the partition of `__transaction_state`.
     pub partition: i32,
@@ -19,7 +19,7 @@ pub struct LogFault {
 
 /// The kind of a fault of the transaction log, with what its text prints; in the order of their numbers, and those of one kind
 /// by what they print.
-#[derive(Debug, PartialEq, Eq, PartialOrd, Ord, Drop)]
+#[derive(PartialEq, Eq, PartialOrd, Ord, Drop)]
 pub enum LogFaultKind {
     /// A record without key, or one whose key or value doesn't read.
     BadRecord { record: RecordFault },

@@ -7,7 +7,7 @@ use eos_base::PartitionName;
 
 /// A fault of one transaction. Of those that stand, the least counts: by producer id, epoch, kind and partition, as the
 /// fields stand here.
-#[derive(Debug, PartialEq, Eq, PartialOrd, Ord, Drop)]
+#[derive(PartialEq, Eq, PartialOrd, Ord, Drop)]
 pub struct MatchFault {
     pub producer: i64,
     /// The epoch of the transaction's data; for a marker without decision, the marker's.
@@ -18,7 +18,7 @@ pub struct MatchFault {
 }
 
 /// The kind of a fault between decisions and logs, in the order of their numbers.
-#[derive(Clone, Copy, Debug, PartialEq, Eq, PartialOrd, Ord)]
+#[derive(Clone, Copy, PartialEq, Eq, PartialOrd, Ord)]
 pub enum MatchFaultKind {
     /// Two decisions have this producer id and data epoch.
     TwiceDecided,

@@ -9,7 +9,7 @@ use crate::match_fault::MatchFault;
 use eos_touch::PartitionFault;
 
 /// How much was checked.
-#[derive(Clone, Copy, Debug, PartialEq, Eq)]
+#[derive(Clone, Copy, PartialEq, Eq)]
 pub struct Counts {
     /// The transactions, committed or aborted.
     pub transactions: u64,
@@ -20,7 +20,7 @@ pub struct Counts {
 }
 
 /// The first fault. Its phases are looked at one after the other; a phase counts only where those before it have no fault.
-#[derive(Debug, PartialEq, Eq, Drop)]
+#[derive(PartialEq, Eq, Drop)]
 pub enum Fault {
     /// Phase 1: a partition's log by itself.
     Partition(PartitionFault),
@@ -71,7 +71,7 @@ impl Fault {
 }
 
 /// Was the promise of exactly once kept?
-#[derive(Debug, PartialEq, Eq, Drop)]
+#[derive(PartialEq, Eq, Drop)]
 pub enum Verdict {
     Yes(Counts),
     No(Fault),

@@ -7,7 +7,7 @@ use eos_base::{PartitionName, RecordFault};
 
 /// A visible record that can't be read for what it has to be. Of those that stand, the least counts: by partition,
 /// offset and kind, as the fields stand here.
-#[derive(Debug, PartialEq, Eq, PartialOrd, Ord, Drop)]
+#[derive(PartialEq, Eq, PartialOrd, Ord, Drop)]
 pub struct VisibleFault {
     /// The record's partition.
     pub partition: PartitionName,
@@ -18,7 +18,7 @@ pub struct VisibleFault {
 
 /// The kind of a fault of a visible record, with what its text prints; in the order of their numbers, and those of one kind by
 /// what they print.
-#[derive(Clone, Copy, Debug, PartialEq, Eq, PartialOrd, Ord)]
+#[derive(Clone, Copy, PartialEq, Eq, PartialOrd, Ord)]
 pub enum VisibleFaultKind {
     /// A record of an output topic whose headers are no claim.
     BadLineage,
