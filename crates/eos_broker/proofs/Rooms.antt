@@ -3,7 +3,7 @@ use Rattle.std.proofs.Common.{◌≡◌, ◌++◌, ◌∷◌, [], ℕ, ◌+◌, 
 use Rattle.std.specs.List.{All}
 use Rattle.std.proofs.lemmas.List.{map-set, get_or-map}
 use Rattle.std.proofs.Math.Seq.{map-set_same}
-use Rattle.std.proofs.lemmas.List.Elements.{All-set, All-push, All-weaker}
+use Rattle.std.proofs.lemmas.List.Elements.{All-set, All-push, All-take, All-weaker}
 use Rattle.eos_machine.specs.declared.item.Item.{Item}
 use Rattle.eos_machine.specs.World.{World, log_at}
 use Rattle.eos_machine.specs.declared.state.Election.{Election}
@@ -57,3 +57,9 @@ no_room a n v k = (k.0, omega arith, k.2)
 
 pub kept_same : (a n p : ℕ) (logs : List LogView) (u v : LogView) → p < length logs → u ≡ slice_index_or logs p u → v ≡ u → All (IsKeptFor a n) logs → All (IsKeptFor a n) (slice_set logs p v)
 kept_same a n p logs u v i is e h = All-set (IsKeptFor a n) logs p v (subst (IsKeptFor a n) (sym e) (subst (IsKeptFor a n) (sym is) (h p u i))) h
+
+pub kept_taken : (a n p k : ℕ) (logs : List LogView) (u v : LogView) → p < length logs → u ≡ slice_index_or logs p u → v ≡ record { items = take k u.items; applications = u.applications; room = u.room } → All (IsKeptFor a n) logs
+    → All (IsKeptFor a n) (slice_set logs p v)
+kept_taken a n p k logs u v i is e h =
+    let w : IsKeptFor a n u = subst (IsKeptFor a n) (sym is) (h p u i) in
+    All-set (IsKeptFor a n) logs p v (subst (IsKeptFor a n) (sym e) (w.0, w.1, All-take (IsFrom a) k u.items w.2)) h

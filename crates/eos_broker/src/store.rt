@@ -270,6 +270,8 @@ impl Store {
         if place < self.logs.len() {
             let log = &mut self.logs[place];
             log.append(item);
+        } else {
+            drop(item);
         }
     }
 

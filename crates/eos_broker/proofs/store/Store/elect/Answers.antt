@@ -1,7 +1,17 @@
 use Rattle.std.proofs.Common.{ap, rules, refl, length}
+use Rattle.eos_machine.specs.LogIndexes.{application_count}
 use Rattle.eos_broker.specs.Held.{Held}
-use Rattle.eos_broker.proofs.Rooms.{items_taken, election_pushed}
+use Rattle.eos_broker.proofs.Rooms.{items_taken, kept_taken, election_pushed}
 use Rattle.eos_broker.proofs.store.Store.elect.Goals as goal
+
+pub invariant_of-self-then-place-len : goal.invariant_of-self-then-place-len
+invariant_of-self-then-place-len c = (
+  c.self.invariant.0,
+  kept_taken (application_count c.self.inside.config) c.self.inside.spare c.args.place c.args.kept c.self.inside.logs.items c.index_mut-log.result.now c.truncate.new.self (search rules) c.index_mut-log.ensures.value c.truncate.ensures c.self.invariant.1,
+  c.self.invariant.2,
+  c.self.invariant.3,
+  c.self.invariant.4,
+)
 
 pub returns-then-place-len-clause-ok : goal.returns-then-place-len-clause-ok
 returns-then-place-len-clause-ok c =

@@ -1,6 +1,7 @@
-use Rattle.std.proofs.Common.{arith}
-use Rattle.std.proofs.lemmas.Grind.{common_steps}
+use Rattle.std.proofs.Common.{[], ◌∷◌, ◌++◌, ◌∙◌}
+use Rattle.std.proofs.lemmas.List.{replicate_more}
+use Rattle.eos_machine.specs.World.{fresh}
 use Rattle.eos_broker.proofs.store.Store.new.Goals as goal
 
 pub loop-preserved : goal.loop-preserved
-loop-preserved c = grind (arith, common_steps)
+loop-preserved c = c.in_ok-push.ensures.items ∙ ((λ i. c.loop.invariant i ++ c.fresh.ensures i ∷ []) ∙ replicate_more c.loop.counter fresh)
