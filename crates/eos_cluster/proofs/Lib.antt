@@ -9,3 +9,4 @@ pub mod Lossless
 mod Refused
 mod LastEntries
 mod Arriving
+mod Ticking

@@ -6,14 +6,14 @@ ghost use Rattle.eos_machine.specs.World.{coord_at};
 ghost use Rattle.eos_machine.specs.Logs.{producer_at};
 ghost use Rattle.eos_machine.specs.Rules.{is_marker_fenced, marker_epoch, marker_kind, marker_of, other_kind};
 ghost use Rattle.eos_machine.specs.Tests.{has, waits_for};
-ghost use Rattle.eos_machine.specs.Deliveries.{append_marker, deliver_marker, marked, ticked};
+ghost use Rattle.eos_machine.specs.Deliveries.{append_marker, deliver_marker, marked, ticked, without};
 ghost use Rattle.eos_cluster.specs.steps.Taken.{settled};
 
 use eos_batch::Kind;
 use eos_broker::answers::waits_for;
 use eos_broker::log_indexes::is_odd_output;
 use eos_broker::{Store, copies, is_not_above};
-use eos_machine::{Config, Item, Reply, Status, Switches};
+use eos_machine::{Config, Item, LogIndexes, Reply, Status, Switches};
 use std::alloc::AllocError;
 
 /// An end marker on its way to a broker.
@@ -106,6 +106,21 @@ fn marker_of(store: &Store, switches: Switches, marker: EndMarker) -> Item
     }
 }
 
+/// Appends an end marker, for which there is room, and the coordinator ticks it off: these are left.
+fn tick(store: &mut Store, switches: Switches, marker: EndMarker, left: LogIndexes)
+    requires room { 1 ≤ store.old.spare }
+    requires left { left ≡ without marker.place (coord_at store.old.world marker.application).awaited }
+    ensures world { store.new.world ≡ ticked switches store.old.config store.old.world marker.application marker.epoch marker.kind marker.place }
+    ensures config { store.new.config ≡ store.old.config }
+    ensures spare { store.old.spare ≤ store.new.spare + 1 }
+{
+    if !switches.lose_marker {
+        let item = marker_of(store, switches, marker);
+        store.put(marker.place, item);
+    }
+    store.tick_off(marker.application, marker.place, left);
+}
+
 /// Appends an end marker that the coordinator waits for, which ticks it off and completes after the last one.
 fn put_awaited(store: &mut Store, switches: Switches, marker: EndMarker) -> Result<(), AllocError>
     requires { marker.application < length store.old.world.coordinators }
@@ -125,11 +140,7 @@ fn put_awaited(store: &mut Store, switches: Switches, marker: EndMarker) -> Resu
     let done = store.step_of(switches, Status::Complete(kind), now, none)?;
     let left = store.others_awaited(application, place)?;
     let is_last = left.as_slice().is_empty();
-    if !switches.lose_marker {
-        let item = marker_of(store, switches, marker);
-        store.put(place, item);
-    }
-    store.tick_off(application, place, left);
+    tick(store, switches, marker, left);
     if is_last {
         store.write(application, done);
     }
@@ -144,11 +155,7 @@ fn put_ticked(store: &mut Store, switches: Switches, marker: EndMarker) -> Resul
 {
     store.make_room(1)?;
     let left = store.others_awaited(marker.application, marker.place)?;
-    if !switches.lose_marker {
-        let item = marker_of(store, switches, marker);
-        store.put(marker.place, item);
-    }
-    store.tick_off(marker.application, marker.place, left);
+    tick(store, switches, marker, left);
     Ok(())
 }
 

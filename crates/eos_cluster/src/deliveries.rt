@@ -76,8 +76,10 @@ pub fn deliver(store: &mut Store, switches: Switches, number: u64) -> Result<Rep
     };
     match message {
         Message::Output { .. } | Message::Offset { .. } => {
-            let (request, arrival) = arrival_of(store, switches, number, message)?;
-            take_in(store, switches, request, arrival)
+            match arrival_of(store, switches, number, message) {
+                Ok((request, arrival)) => take_in(store, switches, request, arrival),
+                Err(why) => Err(why),
+            }
         }
         Message::End {
             application,

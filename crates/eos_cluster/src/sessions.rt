@@ -77,12 +77,15 @@ pub fn produce(
     ensures config { store.new.config ≡ store.old.config }
 {
     let Some(session) = store.session(number) else {
+        drop(claim);
         return Ok(Reply::Unknown);
     };
     if names_nothing(store.config(), partition, &claim) {
+        drop(claim);
         return Ok(Reply::Unknown);
     }
     if !is_active(session) {
+        drop(claim);
         return Ok(Reply::WrongState);
     }
     let message = Message::Output {
@@ -120,17 +123,19 @@ fn commit_offset(
     if !is_active(session) {
         return Ok(Reply::WrongState);
     }
-    let message = Message::Offset {
-        application: session.application,
-        epoch: session.epoch,
-        generation: session.generation,
-        source,
-        offset,
-    };
+    let application = session.application;
+    let epoch = session.epoch;
+    let generation = session.generation;
     let place = store.message_count();
     store.make_room(1)?;
     store.note_offset(number, place)?;
-    store.queue(message);
+    store.queue(Message::Offset {
+        application,
+        epoch,
+        generation,
+        source,
+        offset,
+    });
     Ok(Reply::Done(place))
 }
 
@@ -165,15 +170,16 @@ pub fn end(store: &mut Store, number: usize, kind: Kind) -> Result<Reply, AllocE
     if is_end_refused(store, session, kind) {
         return Ok(Reply::WrongState);
     }
-    let message = Message::End {
-        application: session.application,
-        epoch: session.epoch,
-        kind,
-    };
+    let application = session.application;
+    let epoch = session.epoch;
     let place = store.message_count();
     store.make_room(1)?;
     store.note_end(number, kind);
-    store.queue(message);
+    store.queue(Message::End {
+        application,
+        epoch,
+        kind,
+    });
     Ok(Reply::Done(place))
 }
 
