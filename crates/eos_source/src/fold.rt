@@ -62,7 +62,10 @@ pub(crate) fn read_fold(
     match decode_fold(alloc, bytes) {
         Ok(fold) => match mismatch_of(name, &fold) {
             None => Ok(fold),
-            Some(why) => Err(refused_as(alloc, folder, name, why)),
+            Some(why) => {
+                drop(fold);
+                Err(refused_as(alloc, folder, name, why))
+            }
         },
         Err(FoldFault::OutOfMemory) => Err(FolderFault::OutOfMemory),
         Err(fault) => Err(refused_in(alloc, folder, name, bytes, fault)),
@@ -81,10 +84,12 @@ fn refused_in(
     ensures path { RefusesPiece (segment_path folder.now name.now Fold) result }
     ensures so { (e : Entry) → MayRefuse e result }
 {
-    let path = segment_path(alloc, folder, name, Form::Fold);
-    match (path, placed(alloc, bytes, words_of(fault))) {
-        (Ok(path), Some(words)) => FolderFault::Fold(path, fault.name(), Cause::Told(words)),
-        _ => FolderFault::OutOfMemory,
+    let Ok(path) = segment_path(alloc, folder, name, Form::Fold) else {
+        return FolderFault::OutOfMemory;
+    };
+    match placed(alloc, bytes, words_of(fault)) {
+        Some(words) => FolderFault::Fold(path, fault.name(), Cause::Told(words)),
+        None => FolderFault::OutOfMemory,
     }
 }
 

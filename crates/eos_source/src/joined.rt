@@ -25,7 +25,11 @@ fn longer(alloc: Global, run: Option<KeptRun>, next: KeptRun) -> Result<KeptRun,
     };
     match KeptRun::join(alloc, run, next) {
         Ok(run) => Ok(run),
-        Err(_) => Err(AllocError),
+        Err((run, next)) => {
+            drop(run);
+            drop(next);
+            Err(AllocError)
+        }
     }
 }
 
@@ -48,7 +52,13 @@ pub(crate) fn next_run<F: From<AllocError> + Drop>(
         let Some(slot) = slots.next() else {
             unreachable!()
         };
-        run = Some(longer(alloc, run, slot?)?);
+        match slot {
+            Ok(next) => run = Some(longer(alloc, run, next)?),
+            Err(why) => {
+                drop(run);
+                return Err(why);
+            }
+        }
     }
     Ok(run)
 }

@@ -22,6 +22,7 @@ fn taken(alloc: Global, asked: Asked<'_>, topic: &[u8], fold: FoldFile) -> Resul
     ensures asked { IfOk result (IsAsked (record { topics = asked.entry.topics.now; wanted = asked.entry.wanted; topic = topic.now })) }
 {
     if fold.topic.as_slice() != topic {
+        drop(fold);
         return Err(Unfit::Roles);
     }
     run_of(alloc, asked, fold)
