@@ -1,4 +1,4 @@
-use Rattle.std.proofs.Common.{◌+◌, length, subst, alloc_error, rules}
+use Rattle.std.proofs.Common.{◌+◌, length, inr, subst, alloc_error, rules}
 use Rattle.std.proofs.lemmas.Result.{err_from_is_err_and}
 use Rattle.eos_evidence.specs.Evidence.{segments_of}
 use Rattle.eos_source.specs.Said.{known_by}
@@ -91,3 +91,14 @@ returns g t c =
       passed = (second.passed.0, both_told known topics apps shapes slots front.shapes.now front.slots.items back.shapes.now back.slots.items h enough first.passed.0 second.passed.0 first.passed.1 second.passed.1);
       refused = tt;
     }
+
+-- memory ran out
+pub returns-in_err-front : goal.returns-in_err-front
+returns-in_err-front g t c =
+    let p = err_from_is_err_and c.from_residual.result c.from_residual.ensures.1 in
+    rw p.1 (record { each = λ said piece k. tt; passed = tt; refused = inr p.2 })
+
+pub returns-in_err-append : goal.returns-in_err-append
+returns-in_err-append g t c =
+    let p = err_from_is_err_and c.from_residual-in_err-append.result c.from_residual-in_err-append.ensures.1 in
+    rw p.1 (record { each = λ said piece k. tt; passed = tt; refused = inr p.2 })

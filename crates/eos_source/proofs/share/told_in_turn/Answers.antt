@@ -1,4 +1,4 @@
-use Rattle.std.proofs.Common.{◌≤◌, ◌+◌, length, take, drop, inr, arith, rules}
+use Rattle.std.proofs.Common.{◌≤◌, ◌+◌, length, take, drop, inr, arith}
 use Rattle.std.proofs.lemmas.Result.{err_from_is_err_and}
 use Rattle.std.specs.Vec.Iter.{into_iter_items}
 use Rattle.eos_evidence.specs.Evidence.{segments_of}
@@ -11,7 +11,7 @@ use Rattle.eos_source.proofs.share.told_in_turn.Goals as goal
 pub loop-i-init : goal.loop-i-init
 loop-i-init g c =
     let known = known_by (g.S.Source.said c.args.plan.now.source.now) (g.S.Source.is_log c.args.plan.now.source.now) in
-    none_so_far known c.args.plan.now.topics.now c.args.plan.now.shape.now.spec.apps c.args.share.shapes.now c.args.share.slots.items _ (into_iter_items c.into_iter-slots.result) (search rules) (search rules)
+    none_so_far known c.args.plan.now.topics.now c.args.plan.now.shape.now.spec.apps c.args.share.shapes.now c.args.share.slots.items _ (into_iter_items c.into_iter-slots.result) c.new-all.ensures.items c.into_iter-slots.ensures.rest
 
 pub next_told-requires-clause-partition : goal.next_told-requires-clause-partition
 next_told-requires-clause-partition g c κs within = partition_at c.args.share.shapes.now c.loop-i.i _ c.loop-i-test.true c.index-shapes-i.is c.requires.partitions

@@ -1,11 +1,11 @@
 use Rattle.std.proofs.Common.{◌≡◌, suc, length, [], ◌∷◌, ◌++◌, take, drop, sym, subst, ap, ◌∙◌, arith, rules}
-use Rattle.std.proofs.lemmas.Grind.{common_steps, flat_map-append}
+use Rattle.std.proofs.lemmas.Grind.{flat_map-append}
 use Rattle.std.proofs.lemmas.Iterator.Adapters.{YieldsList-from_vec}
 use Rattle.std.proofs.lemmas.Iterator.Consumers.{YieldsList-end}
 use Rattle.std.proofs.lemmas.List.{map-id, append-nil}
+use Rattle.std.proofs.Math.Seq.{take-append_seam}
 use Rattle.std.specs.List.{count_by}
 use Rattle.std.specs.Prelude.{All, ◌==◌}
-use Rattle.std.specs.Vec.Iter.{into_iter_items}
 use Rattle.eos_evidence.specs.Evidence.{segments_of}
 use Rattle.eos_source.specs.Said.{known_by}
 use Rattle.eos_source.specs.steps.Seats.{IsReading, numbers_in, all_numbers}
@@ -24,7 +24,7 @@ loop-seat-init g c =
     let apps = c.args.plan.now.shape.now.spec.apps in
     let names = segments_of c.args.plan.now.shape.now.partitions in
     let slots = c.in_ok-slots.slots in
-    let rest : into_iter_items c.into_iter-seat-iterator.result ≡ c.in_ok-seats.seats.items = search rules in (
+    let rest = c.into_iter-seat-iterator.ensures.into_iter_gives.0 in (
       tt,
       tt,
       none_yet known outcomes topics apps 0 names slots.items (omega (arith, slots.ok.0, c.in_ok-slots.ensures.each, c.pieces.ensures.count)) c.in_ok-slots.ensures.empty,
@@ -53,7 +53,8 @@ loop-seat-preserved g c =
     let seat = c.in-Some.seat in
     let all = subst (λ xs. All (λ seat. All (IsReading known outcomes topics apps names) seat.items) xs) c.in-Some.ensures.steps.0 c.loop-seat.invariant.4 in
     let len : length new ≡ c.loop-seat.slots.len = search rules in
-    let same : take c.loop-seat.slots.len (new ++ drop (length new) c.loop-seat.slots.items) ≡ new = grind (arith, common_steps) in
+    let same : take c.loop-seat.slots.len (new ++ drop (length new) c.loop-seat.slots.items) ≡ new =
+    ap (λ n. take n (new ++ drop (length new) c.loop-seat.slots.items)) (sym len) ∙ take-append_seam new (drop (length new) c.loop-seat.slots.items) in
     let stays : AreFilledAsWell c.loop-seat.slots.items new = subst (λ xs. AreFilledAsWell xs new) c.as_mut_slice.ensures.value c.fill.ensures.stay in
     let both = all_both (λ n. IsFilled new n) (all_numbers seen) (numbers_in seat.items) (λ k d lt. stays _ (c.loop-seat.invariant.5 k d lt)) c.fill.ensures.filled in
     let numbers = flat_map-append (λ s. numbers_in s.items) seen (seat ∷ []) ∙ ap (λ xs. all_numbers seen ++ xs) (append-nil (numbers_in seat.items)) in (
@@ -85,3 +86,13 @@ returns-clause-slots g c =
     let apps = c.args.plan.now.shape.now.spec.apps in
     let names = segments_of c.args.plan.now.shape.now.partitions in
     all_read known outcomes topics apps 0 names c.in_ok-filled.field-0.items (subst (λ xs. AreSlotsSoFar known outcomes topics apps 0 names xs) (sym c.in_ok-filled.ensures) c.loop-seat.invariant.2)
+
+pub fill-requires-clause-slots : goal.fill-requires-clause-slots
+fill-requires-clause-slots g c κs within =
+    let known = known_by (g.S.Source.said c.args.plan.now.source.now) (g.S.Source.is_log c.args.plan.now.source.now) in
+    let outcomes = g.S.Source.outcomes c.args.plan.now.source.now in
+    let names = segments_of c.args.plan.now.shape.now.partitions in
+    subst (λ xs. AreSlotsSoFar known outcomes c.args.plan.now.topics.now c.args.plan.now.shape.now.spec.apps 0 names xs) (sym c.as_mut_slice.ensures.value) c.loop-seat.invariant.2
+
+pub returns-clause-once : goal.returns-clause-once
+returns-clause-once g c = c.in_ok-seats.ensures.once
