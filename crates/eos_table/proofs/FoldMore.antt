@@ -1,5 +1,5 @@
 -- What a loop has made of the items before its place, one item further.
-use Rattle.std.proofs.Common.{◌≡◌, ℕ, zero, suc, ◌<◌, List, [], ◌∷◌, ◌++◌, length, map, get_or, take, fold, sym, ap, subst, ◌∙◌, ◌+◌, arith}
+use Rattle.std.proofs.Common.{◌≡◌, ℕ, zero, suc, ◌<◌, List, [], ◌∷◌, ◌++◌, length, map, get_or, take, fold, sym, ap, subst, ◌∙◌, ◌+◌, append_assoc, arith}
 use Rattle.std.specs.List.{flat_map}
 use Rattle.std.proofs.lemmas.List.Sums.{fold-append}
 use Rattle.std.proofs.lemmas.Grind.{flat_map-append}
@@ -38,3 +38,21 @@ pub mapped_more : {X Y : Type 0} (g : X → Y) (before after : List Y) (xs : Lis
 mapped_more {Y = Y} g before after xs i x lt is so_far pushed =
     let all : map g (take (i + 1) xs) ≡ map g (take i xs) ++ g x ∷ [] = ap (map g) (taken_more xs i x lt is) ∙ map-append g (take i xs) (x ∷ []) in
     pushed ∙ (ap (λ (ys : List Y). ys ++ g x ∷ []) so_far ∙ sym all)
+
+-- the same behind what was there before
+pub behind_more : {X Y : Type 0} (g : X → List Y) (start before after : List Y) (xs : List X) (i : ℕ) (d : X) → i < length xs
+    → before ≡ start ++ flat_map g (take i xs) → after ≡ before ++ g (get_or xs i d) → after ≡ start ++ flat_map g (take (i + 1) xs)
+behind_more {Y = Y} g start before after xs i d lt so_far pushed =
+    let x = get_or xs i d in
+    let more : flat_map g (take (i + 1) xs) ≡ flat_map g (take i xs) ++ g x =
+    ap (flat_map g) (take_more xs i d lt) ∙ (flat_map-append g (take i xs) (x ∷ []) ∙ ap (λ (ys : List Y). flat_map g (take i xs) ++ ys) (append-nil (g x))) in
+    pushed ∙ (ap (λ (ys : List Y). ys ++ g x) so_far ∙ (append_assoc start (flat_map g (take i xs)) (g x) ∙ ap (λ (ys : List Y). start ++ ys) (sym more)))
+
+-- and where each item is named before
+pub named_more : {X N Y : Type 0} (h : N → Y) (g : X → N) (start before after : List Y) (xs : List X) (i : ℕ) (d : X) → i < length xs
+    → before ≡ start ++ map h (map g (take i xs)) → after ≡ before ++ h (g (get_or xs i d)) ∷ [] → after ≡ start ++ map h (map g (take (i + 1) xs))
+named_more {N = N} {Y = Y} h g start before after xs i d lt so_far pushed =
+    let x = get_or xs i d in
+    let more : map h (map g (take (i + 1) xs)) ≡ map h (map g (take i xs)) ++ h (g x) ∷ [] =
+    ap (λ ys. map h (map g ys)) (take_more xs i d lt) ∙ (ap (map h) (map-append g (take i xs) (x ∷ [])) ∙ map-append h (map g (take i xs)) (g x ∷ [])) in
+    pushed ∙ (ap (λ (ys : List Y). ys ++ h (g x) ∷ []) so_far ∙ (append_assoc start (map h (map g (take i xs))) (h (g x) ∷ []) ∙ ap (λ (ys : List Y). start ++ ys) (sym more)))

@@ -1,9 +1,10 @@
 -- The order of the faults is total, and only equal faults are tied in it.
-use Rattle.std.proofs.Common.{refl}
+use Rattle.std.proofs.Common.{refl, sym, subst}
 use Rattle.std.specs.Option.{option_cmp}
 use Rattle.std.specs.Ordering.{int_cmp}
 use Rattle.std.specs.Cmp.{IsTotalOrder}
 use Rattle.std.specs.declared.cmp.Ordering.{Ordering}
+use Rattle.std.specs.declared.cmp.Ordering.TheVariants.{Less, Equal, Greater}
 use Rattle.eos_base.specs.steps.Least.{IsExact}
 use Rattle.eos_base.specs.PartitionNames.{name_cmp}
 use Rattle.eos_base.proofs.Exact.{then_parts, int_exact, option_exact}
@@ -17,6 +18,11 @@ use Rattle.eos_table.specs.MatchFaults.{fault_cmp}
 abbrev pub kind_cmp : MatchFaultKind → MatchFaultKind → Ordering
 kind_cmp = kind_ghosts.cmp
 
+abbrev IsTie : Ordering → Type 0
+IsTie Less = ⊥
+IsTie Equal = Unit {0}
+IsTie Greater = ⊥
+
 pub kind_exact : IsExact kind_cmp
 kind_exact TwiceDecided TwiceDecided e = refl
 kind_exact Undecided Undecided e = refl
@@ -25,7 +31,7 @@ kind_exact NotListed NotListed e = refl
 kind_exact StrayMarker StrayMarker e = refl
 kind_exact AbsentPartition AbsentPartition e = refl
 kind_exact MissingMarker MissingMarker e = refl
-kind_exact k l e = absurd cc
+kind_exact k l e = absurd (subst IsTie (sym e) tt)
 
 pub fault_exact : IsExact fault_cmp
 fault_exact f g e =

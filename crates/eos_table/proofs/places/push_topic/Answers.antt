@@ -1,5 +1,5 @@
-use Rattle.std.proofs.Common.{◌≡◌, ◌<◌, ℕ, ℤ, pos, List, length, get_or, map, fold, subst, arith}
-use Rattle.std.proofs.lemmas.Grind.{common_steps}
+use Rattle.std.proofs.Common.{◌≡◌, ◌<◌, ◌≤◌, ◌∙◌, ℕ, ℤ, pos, List, length, get_or, map, fold, ap, sym, subst, take_all}
+use Rattle.std.specs.List.{flat_map}
 use Rattle.std.proofs.lemmas.List.Folds.{flat_map-map}
 use Rattle.eos_base.specs.declared.partition_name.PartitionName.{PartitionName}
 use Rattle.eos_table.specs.steps.Keys.{plain_name, plain_ended}
@@ -12,9 +12,14 @@ name_in topic n = record { topic = topic; partition = n }
 
 pub returns : goal.returns
 returns c =
-    let h = c.loop-partition.invariant in
-    let same = flat_map-map (name_by (map plain_name c.args.there.now) (map plain_ended c.args.marked.now) c.args.decision.now) (name_in c.args.topic.now.topic) c.args.topic.now.numbers in
-    grind (arith, common_steps, h, same)
+    let topic = c.args.topic.now.topic in
+    let xs = c.args.topic.now.numbers in
+    let i = c.loop-partition.partition-index in
+    let shown = name_by (map plain_name c.args.there.now) (map plain_ended c.args.marked.now) c.args.decision.now in
+    let old = c.args.faults.now in
+    let past : length xs ≤ i = subst (λ (zs : List ℤ). length zs ≤ i) c.as_slice-partition-items.ensures c.loop-partition-test.false in
+    c.loop-partition.invariant
+    ∙ (ap (λ (ns : List ℤ). fold found old (flat_map (λ (n : ℤ). shown (name_in topic n)) ns)) (take_all i xs past) ∙ sym (ap (fold found old) (flat_map-map shown (name_in topic) xs)))
 
 pub loop-partition-preserved : goal.loop-partition-preserved
 loop-partition-preserved c =
