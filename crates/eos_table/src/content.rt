@@ -8,7 +8,7 @@ ghost use Rattle.eos_table.specs.TransactionLog.{content_of, content_of_value};
 use bytes::Bytes;
 use eos_base::RecordFault;
 use eos_kept::ItemRef;
-use eos_txnlog::{TxnValue, decode_key, decode_value};
+use eos_txnlog::TxnValue;
 use std::alloc::{AllocError, Global};
 
 /// What a data record of the transaction log says.
@@ -30,11 +30,7 @@ pub(crate) fn read_id(
     ensures { IfOk result (λ read. read ≡ read_key key.now) }
 {
     let bytes = Bytes::copy_from_slice(alloc, key)?;
-    match decode_key(alloc, &bytes) {
-        Ok(id) => Ok(Ok(id)),
-        Err(RecordFault::OutOfMemory) => Err(AllocError),
-        Err(fault) => Ok(Err(fault)),
-    }
+    eos_txnlog::read_id(alloc, &bytes)
 }
 
 /// Reads a value, of which it takes a copy.
@@ -45,11 +41,7 @@ pub(crate) fn read_state(
     ensures { IfOk result (λ read. read ≡ read_value value.now) }
 {
     let bytes = Bytes::copy_from_slice(alloc, value)?;
-    match decode_value(alloc, &bytes) {
-        Ok(value) => Ok(Ok(value)),
-        Err(RecordFault::OutOfMemory) => Err(AllocError),
-        Err(fault) => Ok(Err(fault)),
-    }
+    eos_txnlog::read_state(alloc, &bytes)
 }
 
 fn content_of_id(alloc: Global, id: Bytes, value: Option<&[u8]>) -> Result<Content, AllocError>

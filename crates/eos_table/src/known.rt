@@ -12,7 +12,7 @@ ghost use Rattle.eos_table.specs.steps.Reads.{content_read};
 use crate::around::{Around, HEAD, TIMES, fields_around, form_in, is_same, version_of};
 use crate::content::{read_id, read_state};
 use crate::section::Section;
-use crate::shared::Sets;
+use crate::shared::{Sets, empty_slots};
 use crate::value::SharedValue;
 use bytes::Bytes;
 use eos_base::RecordFault;
@@ -23,7 +23,7 @@ use std::alloc::{AllocError, Global};
 use std::marker::Model;
 use std::sync::Arc;
 
-/// At most so many of either are kept, and of a short log so many.
+/// At most so many of either are kept, and of a short log so many: powers of two.
 const MOST: u64 = 16384;
 
 const FEW: u64 = 64;
@@ -59,7 +59,7 @@ impl KnownKey {
         requires { read_key key.now ≡ Ok (Some id.now) }
     {
         Ok(KnownKey {
-            key: copied(alloc, key)?,
+            key: Vec::from_slice(alloc, key)?,
             id: id.clone()?,
         })
     }
@@ -109,7 +109,7 @@ impl KnownSet {
     {
         Ok(KnownSet {
             form,
-            text: copied(alloc, text)?,
+            text: Vec::from_slice(alloc, text)?,
             set: Arc::try_clone(set)?,
         })
     }
@@ -125,19 +125,6 @@ impl KnownSet {
     {
         Ok(Arc::try_clone(&self.set)?)
     }
-}
-
-fn copied(alloc: Global, bytes: &[u8]) -> Result<Vec<u8>, AllocError>
-    ensures { IfOk result (λ copy. copy.items ≡ bytes.now) }
-{
-    let mut copy = Vec::new(alloc);
-    copy.extend_from_slice(bytes)?;
-    Ok(copy)
-}
-
-/// In how many slots what was read of so many records is kept: a power of two.
-pub(crate) fn slots_for(records: u64) -> u64 {
-    if records <= FEW { FEW } else { MOST }
 }
 
 /// Where the bytes are looked for among so many slots.
@@ -156,17 +143,12 @@ pub(crate) struct Known {
 }
 
 impl Known {
-    /// Nothing was read. There are so many slots for either.
-    pub fn new(alloc: Global, slots: u64) -> Result<Known, AllocError> {
-        let mut keys = Vec::new(alloc);
-        let mut sets = Vec::new(alloc);
-        for _slot in 0..slots {
-            keys.push(None)?;
-            sets.push(None)?;
-        }
+    /// Nothing was read yet, of so many records.
+    pub fn new(alloc: Global, records: u64) -> Result<Known, AllocError> {
+        let slots = if records <= FEW { FEW } else { MOST };
         Ok(Known {
-            keys,
-            sets,
+            keys: empty_slots(alloc, slots)?,
+            sets: empty_slots(alloc, slots)?,
             shared: Sets::new(alloc, slots)?,
             section: Section::empty(alloc)?,
         })
@@ -317,21 +299,7 @@ impl Known {
         Ok(SharedValue::new(state, set))
     }
 
-    /// Reads a value whose partitions aren't known, and keeps them.
-    fn read_anew(
-        &mut self,
-        alloc: Global,
-        value: &[u8],
-    ) -> Result<Result<SharedValue, RecordFault>, AllocError>
-        ensures { IfOk result (λ read. read ≡ read_value value.now) }
-    {
-        match read_state(alloc, value)? {
-            Ok(state) => Ok(Ok(self.keep_value(alloc, value, state)?)),
-            Err(fault) => Ok(Err(fault)),
-        }
-    }
-
-    /// Reads a value.
+    /// Reads a value. Where its partitions aren't known, they are kept.
     fn state_of(
         &mut self,
         alloc: Global,
@@ -339,9 +307,12 @@ impl Known {
     ) -> Result<Result<SharedValue, RecordFault>, AllocError>
         ensures { IfOk result (λ read. read ≡ read_value value.now) }
     {
-        match self.known_value(alloc, value)? {
-            Some(state) => Ok(Ok(state)),
-            None => self.read_anew(alloc, value),
+        if let Some(state) = self.known_value(alloc, value)? {
+            return Ok(Ok(state));
+        }
+        match read_state(alloc, value)? {
+            Ok(state) => Ok(Ok(self.keep_value(alloc, value, state)?)),
+            Err(fault) => Ok(Err(fault)),
         }
     }
 

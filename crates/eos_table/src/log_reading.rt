@@ -8,11 +8,11 @@ ghost use Rattle.eos_table.specs.TransactionLog.{State, content_of, state_of, st
 ghost use Rattle.eos_table.specs.declared.content.Content.TheVariants.{Of};
 ghost use Rattle.eos_table.specs.declared.held.Holding.TheVariants.{Each, Apart};
 ghost use Rattle.eos_table.specs.declared.mark.Mark.{Mark};
-ghost use Rattle.eos_table.specs.steps.LogCandidates.{after, unread, taken, open_at, step_faults, faults_at, faults_after, part_faults, producer_of, step_of};
+ghost use Rattle.eos_table.specs.steps.LogCandidates.{after, unread, taken, open_at, step_faults, faults_at, faults_after, part_faults, none_found, producer_of, step_of};
 ghost use Rattle.eos_table.specs.steps.Held.{readout, Shows, Takes};
 
 use crate::held::{Held, Holding};
-use crate::known::{Known, Read, slots_for};
+use crate::known::{Known, Read};
 use crate::last_values::{is_of_transaction_log, kind_of_status};
 use crate::log_faults::{LogFaults, take_at};
 use crate::mark::{Mark, Place, producer_of};
@@ -258,23 +258,6 @@ fn push_open(
 }
 
 impl LogReading {
-    /// Nothing is read, and the records and faults to come are held and kept so.
-    fn new(
-        alloc: Global,
-        held: Held,
-        faults: LogFaults,
-        slots: u64,
-    ) -> Result<LogReading, AllocError>
-        ensures { IfOk result (λ r. (r.held ≡ held) × (r.decisions.items ≡ []) × (r.faults ≡ faults)) }
-    {
-        Ok(LogReading {
-            held,
-            decisions: Vec::new(alloc),
-            faults,
-            known: Known::new(alloc, slots)?,
-        })
-    }
-
     /// Takes up a partition of the log.
     fn take_part(&mut self, alloc: Global, part: &Part) -> Result<(), AllocError>
         ensures { OnOk result (Takes (readout self.old) (readout self.new) (steps_of part.now) (part_faults part.now)) }
@@ -298,17 +281,25 @@ fn count_records(parts: &[Part]) -> u64 {
     count
 }
 
-/// Reads the partitions of the log, of these of all topics, and holds their unskipped records so.
+/// Reads the partitions of the log, of these of all topics, and holds their unskipped records so. Of the faults all are kept, or the least.
 pub(crate) fn read_log(
     alloc: Global,
     parts: &[Part],
     holding: Holding,
-    faults: LogFaults,
+    keeps_all: bool,
 ) -> Result<LogReading, AllocError>
-    ensures { IfOk result (λ reading. Shows holding (readout reading) (after (unread faults) (all_steps (transaction_parts parts.now)) (flat_map part_faults (transaction_parts parts.now)))) }
+    ensures { IfOk result (λ reading. Shows holding (readout reading) (after (unread (none_found keeps_all)) (all_steps (transaction_parts parts.now)) (flat_map part_faults (transaction_parts parts.now)))) }
 {
-    let slots = slots_for(count_records(parts));
-    let mut reading = LogReading::new(alloc, Held::new(alloc, holding), faults, slots)?;
+    let known = Known::new(alloc, count_records(parts))?;
+    let held = Held::new(alloc, holding);
+    let decisions = Vec::new(alloc);
+    let faults = LogFaults::new(alloc, keeps_all);
+    let mut reading = LogReading {
+        held,
+        decisions,
+        faults,
+        known,
+    };
     for part in parts {
         if is_of_transaction_log(part) {
             reading.take_part(alloc, part)?;

@@ -100,31 +100,28 @@ fn mixed(sum: u64, more: u64) -> u64 {
     sum.wrapping_mul(31).wrapping_add(more)
 }
 
-fn mixed_with(sum: u64, topic: &TopicPartitions) -> u64 {
-    let mut sum = mixed(sum, crc32c(topic.topic.as_slice()) as u64);
-    for number in topic.numbers.as_slice() {
-        sum = mixed(sum, number.unsigned_abs() as u64);
-    }
-    sum
-}
-
 /// Where an equal set is looked for among so many slots.
 fn slot_of(set: &[TopicPartitions], slots: usize) -> usize {
     let mut sum = 0;
     for topic in set {
-        sum = mixed_with(sum, topic);
+        sum = mixed(sum, crc32c(topic.topic.as_slice()) as u64);
+        for number in topic.numbers.as_slice() {
+            sum = mixed(sum, number.unsigned_abs() as u64);
+        }
     }
     (sum % slots.max(1) as u64) as usize
 }
 
-/// The set, with no other owner yet.
-fn own(alloc: Global, set: &Partitions) -> Result<Arc<Partitions, Global>, AllocError>
-    ensures { IfOk result (λ own. arc_value own ≡ set.now) }
-{
-    match Arc::new(alloc, set.clone()?) {
-        Ok(own) => Ok(own),
-        Err(_) => Err(AllocError),
+/// So many slots with nothing in them.
+pub(crate) fn empty_slots<T: Drop>(
+    alloc: Global,
+    count: u64,
+) -> Result<Vec<Option<T>>, AllocError> {
+    let mut slots = Vec::new(alloc);
+    for _slot in 0..count {
+        slots.push(None)?;
     }
+    Ok(slots)
 }
 
 /// Sets of partitions that values share, each at the slot of what it lists; the last one stays there.
@@ -137,11 +134,10 @@ pub(crate) struct Sets {
 impl Sets {
     /// No set yet, and so many slots.
     pub(crate) fn new(alloc: Global, count: u64) -> Result<Sets, AllocError> {
-        let mut slots = Vec::new(alloc);
-        for _slot in 0..count {
-            slots.push(None)?;
-        }
-        Ok(Sets { alloc, slots })
+        Ok(Sets {
+            alloc,
+            slots: empty_slots(alloc, count)?,
+        })
     }
 
     fn known(
@@ -168,7 +164,7 @@ impl Sets {
         if let Some(known) = self.known(slot, set)? {
             return Ok(known);
         }
-        let made = own(self.alloc, set)?;
+        let made = Arc::new(self.alloc, set.clone()?)?;
         if let Some(place) = self.slots.get_mut(slot) {
             *place = Some(Arc::try_clone(&made)?);
         }

@@ -22,12 +22,7 @@ use std::alloc::{AllocError, Global};
 pub(crate) fn decisions_in(alloc: Global, parts: &[Part]) -> Result<Vec<SharedDecision>, AllocError>
     ensures { IfOk result (λ ds. ds.items ≡ decisions_of (transaction_parts parts.now)) }
 {
-    let LogReading { decisions, .. } = read_log(
-        alloc,
-        parts,
-        Holding::Nothing,
-        LogFaults::new(alloc, false),
-    )?;
+    let LogReading { decisions, .. } = read_log(alloc, parts, Holding::Nothing, false)?;
     Ok(decisions)
 }
 
@@ -35,51 +30,39 @@ pub(crate) fn decisions_in(alloc: Global, parts: &[Part]) -> Result<Vec<SharedDe
 type Judged = (Vec<SharedDecision>, LogFaults);
 
 /// The same, where its unskipped records stand apart and none is left unfinished. None says nothing.
-fn judge_apart(
-    alloc: Global,
-    parts: &[Part],
-    faults: LogFaults,
-) -> Result<Option<Judged>, AllocError>
+fn judge_apart(alloc: Global, parts: &[Part], keeps_all: bool) -> Result<Option<Judged>, AllocError>
     ensures decisions { IfOk result (λ o. IfSome o (λ judged. judged.0.items ≡ decisions_of (transaction_parts parts.now))) }
-    ensures faults { IfOk result (λ o. IfSome o (λ judged. judged.1 ≡ fold taken faults (gathered (transaction_parts parts.now)))) }
+    ensures faults { IfOk result (λ o. IfSome o (λ judged. judged.1 ≡ fold taken (none_found keeps_all) (gathered (transaction_parts parts.now)))) }
 {
     let LogReading {
         held,
         decisions,
         faults,
         ..
-    } = read_log(alloc, parts, Holding::Apart, faults)?;
+    } = read_log(alloc, parts, Holding::Apart, keeps_all)?;
     match held.holding {
         Holding::Apart => Ok(Some((decisions, faults))),
         Holding::Each | Holding::Nothing => Ok(None),
     }
 }
 
-/// The same, with each unskipped record held against those before it.
-fn judge_each(alloc: Global, parts: &[Part], faults: LogFaults) -> Result<Judged, AllocError>
+/// What the log decided, and its faults, of which all are kept or the least. A log that keeps its rule is read once, and of its records
+/// next to nothing is held; of another one, each unskipped record is held against those before it.
+fn judge_log(alloc: Global, parts: &[Part], keeps_all: bool) -> Result<Judged, AllocError>
     ensures decisions { IfOk result (λ judged. judged.0.items ≡ decisions_of (transaction_parts parts.now)) }
-    ensures faults { IfOk result (λ judged. judged.1 ≡ fold taken faults (gathered (transaction_parts parts.now))) }
+    ensures faults { IfOk result (λ judged. judged.1 ≡ fold taken (none_found keeps_all) (gathered (transaction_parts parts.now))) }
 {
+    if let Some(judged) = judge_apart(alloc, parts, keeps_all)? {
+        return Ok(judged);
+    }
     let LogReading {
         held,
         decisions,
         mut faults,
         ..
-    } = read_log(alloc, parts, Holding::Each, faults)?;
+    } = read_log(alloc, parts, Holding::Each, keeps_all)?;
     push_doubled(alloc, &mut faults, held.marks.as_slice())?;
     Ok((decisions, faults))
-}
-
-/// What the log decided, and its faults, of which all are kept or the least. A log that keeps its rule is read once, and of its records
-/// next to nothing is held.
-fn judge_log(alloc: Global, parts: &[Part], keeps_all: bool) -> Result<Judged, AllocError>
-    ensures decisions { IfOk result (λ judged. judged.0.items ≡ decisions_of (transaction_parts parts.now)) }
-    ensures faults { IfOk result (λ judged. judged.1 ≡ fold taken (none_found keeps_all) (gathered (transaction_parts parts.now))) }
-{
-    match judge_apart(alloc, parts, LogFaults::new(alloc, keeps_all))? {
-        Some(judged) => Ok(judged),
-        None => judge_each(alloc, parts, LogFaults::new(alloc, keeps_all)),
-    }
 }
 
 /// What the transaction log decided, in its order: the Prepare records among the unskipped ones of the partitions of

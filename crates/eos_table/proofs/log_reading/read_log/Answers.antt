@@ -1,10 +1,8 @@
-use Rattle.std.proofs.Common.{[], refl, sym, subst, ap, ◌∙◌, drop, ◌+◌}
+use Rattle.std.proofs.Common.{◌≡◌, [], refl, sym, subst, drop, ◌+◌, ◌∙◌, rules}
 use Rattle.std.specs.List.{flat_map}
 use Rattle.std.proofs.lemmas.List.{drop_all}
-use Rattle.eos_table.specs.declared.held.Held.{Held}
 use Rattle.eos_table.specs.TransactionLog.{transaction_parts, all_steps, steps_of}
-use Rattle.eos_table.specs.steps.LogCandidates.{after, unread, part_faults}
-use Rattle.eos_table.specs.steps.Apart.{Fits}
+use Rattle.eos_table.specs.steps.LogCandidates.{after, unread, none_found, part_faults}
 use Rattle.eos_table.specs.steps.Held.{readout, Takes}
 use Rattle.eos_table.proofs.LogSteps.{Leaves, one_part_less, log_first, other_first, none_left, shows_unread}
 use Rattle.eos_table.proofs.log_reading.read_log.Goals as goal
@@ -12,11 +10,10 @@ use Rattle.eos_table.proofs.log_reading.read_log.Goals.{then-is_of_transaction_l
 
 pub loop-part-init : goal.loop-part-init
 loop-part-init c =
-    let made = c.in_ok-reading.ensures in
-    let held = c.new.ensures in (
-      unread c.args.faults,
-      shows_unread c.args.holding (readout c.in_ok-reading.reading) c.args.faults (ap (λ (z : Held). z.holding) made.0 ∙ held.holding) (ap (λ (z : Held). z.marks.items) made.0 ∙ held.marks)
-          (subst (λ (z : Held). Fits z.owners z.homes []) (sym made.0) held.tables) made.1 made.2,
+    let held = c.new-held.ensures in
+    let nothing : c.new-decisions.result.items ≡ [] = search rules in (
+      unread (none_found c.args.keeps_all),
+      shows_unread c.args.holding _ (none_found c.args.keeps_all) held.holding held.marks held.tables nothing c.new-faults.ensures,
       refl,
     )
 
@@ -28,7 +25,7 @@ loop-part-preserved c =
     let rest = transaction_parts (drop (i + 1) logs) in
     let asked = c.args.holding in
     let old = readout c.loop-part.reading in
-    let all = after (unread c.args.faults) (all_steps (transaction_parts logs)) (flat_map part_faults (transaction_parts logs)) in
+    let all = after (unread (none_found c.args.keeps_all)) (all_steps (transaction_parts logs)) (flat_map part_faults (transaction_parts logs)) in
     elim c.if-is_of_transaction_log.branch [
       | then-is_of_transaction_log+in_ok-take_part w ↦
           let taken = subst (λ z. Takes old (readout z) (steps_of part) (part_faults part)) (sym w.reading-is) w.in_ok-take_part.ensures in
@@ -42,6 +39,6 @@ loop-part-preserved c =
 pub returns : goal.returns
 returns c =
     let logs = c.args.parts.now in
-    let all = after (unread c.args.faults) (all_steps (transaction_parts logs)) (flat_map part_faults (transaction_parts logs)) in
+    let all = after (unread (none_found c.args.keeps_all)) (all_steps (transaction_parts logs)) (flat_map part_faults (transaction_parts logs)) in
     none_left c.args.holding (readout c.loop-part.reading) all
     (subst (λ z. Leaves c.args.holding (readout c.loop-part.reading) (transaction_parts z) all) (drop_all c.loop-part.part-index logs c.loop-part-test.false) c.loop-part.invariant)
