@@ -2,7 +2,7 @@
 
 ghost use Rattle.std.specs.Prelude.{◌≡◌, true, map, IfOk, IsPermutation};
 ghost use Rattle.eos_base.specs.Members.{Has};
-ghost use Rattle.eos_table.specs.steps.Wanted.{marker_end, close_end, AreWithin, AreMarked, Agrees};
+ghost use Rattle.eos_table.specs.steps.Wanted.{marker_end, close_end, AreWithin, Agrees};
 
 use eos_base::in_order;
 use eos_batch::Marker;
@@ -53,14 +53,6 @@ fn are_same(ends: &[Close], others: &[Close]) -> bool
     are_within(others, ends)
 }
 
-/// The closes in order.
-fn closes_in_order(alloc: Global, closes: &[Close]) -> Result<Vec<Close>, AllocError>
-    ensures { IfOk result (λ v. IsPermutation closes.now v.items) }
-{
-    let copied = Vec::from_slice(alloc, closes)?;
-    Ok(in_order(copied))
-}
-
 /// The end markers in order, each as a close of data of its own epoch.
 fn markers_in_order(alloc: Global, markers: &[Marker]) -> Result<Vec<Close>, AllocError>
     ensures { IfOk result (λ v. IsPermutation (map marker_end markers.now) v.items) }
@@ -93,31 +85,16 @@ fn ends_in_order(alloc: Global, closes: &[Close]) -> Result<Vec<Close>, AllocErr
     Ok(in_order(ends))
 }
 
-/// Whether the end markers are those that are wanted. The closes stand in order, as then mostly do their markers.
-fn is_marked(alloc: Global, wanted: &[Close], part: &Part) -> Result<bool, AllocError>
-    ensures { IfOk result (λ yes. yes ≡ true → AreMarked wanted.now part.now) }
-{
-    let ends = ends_in_order(alloc, wanted)?;
-    let markers = markers_in_order(alloc, part.markers())?;
-    Ok(are_same(markers.as_slice(), ends.as_slice()))
-}
-
-/// Whether the log of a part is as is wanted there, by closes in order.
-fn is_as_wanted(alloc: Global, wanted: &[Close], part: &Part) -> Result<bool, AllocError>
-    ensures { IfOk result (λ yes. yes ≡ true → Agrees wanted.now part.now) }
-{
-    if !are_within(part.closes(), wanted) {
-        return Ok(false);
-    }
-    let marked = is_marked(alloc, wanted, part)?;
-    Ok(marked)
-}
-
-/// Whether the log of a part is as is wanted there.
+/// Whether the log of a part is as is wanted there. The closes are put in order, as then mostly are their markers.
 pub(crate) fn agrees(alloc: Global, wanted: &[Close], part: &Part) -> Result<bool, AllocError>
     ensures { IfOk result (λ yes. yes ≡ true → Agrees wanted.now part.now) }
 {
-    let there = closes_in_order(alloc, wanted)?;
-    let agree = is_as_wanted(alloc, there.as_slice(), part)?;
-    Ok(agree)
+    let copied = Vec::from_slice(alloc, wanted)?;
+    let there = in_order(copied);
+    if !are_within(part.closes(), there.as_slice()) {
+        return Ok(false);
+    }
+    let ends = ends_in_order(alloc, there.as_slice())?;
+    let markers = markers_in_order(alloc, part.markers())?;
+    Ok(are_same(markers.as_slice(), ends.as_slice()))
 }

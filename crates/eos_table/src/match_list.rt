@@ -33,10 +33,9 @@ fn push_by_decision(
     ensures { OnOk result (faults.new ≡ fold found faults.old (decisions_at shard.of shard.number decisions.now ++ closes_at shard.of shard.number decisions.now parts.now)) }
 {
     let deciders = deciders_of(alloc, decisions, shard)?;
-    let listed = listed_keys(alloc, decisions, shard)?;
     push_decisions(faults, &deciders, decisions, shard)?;
-    push_closes(faults, &deciders, &listed, parts, shard)?;
-    Ok(())
+    let listed = listed_keys(alloc, decisions, shard)?;
+    push_closes(faults, &deciders, &listed, parts, shard)
 }
 
 /// What the end markers show.
@@ -50,8 +49,7 @@ fn push_by_marker(
     ensures { OnOk result (faults.new ≡ fold found faults.old (markers_at shard.of shard.number decisions.now parts.now)) }
 {
     let wanted = ended_keys(alloc, decisions, shard)?;
-    push_markers(faults, &wanted, parts, shard)?;
-    Ok(())
+    push_markers(faults, &wanted, parts, shard)
 }
 
 /// What the partitions that decisions list show.
@@ -66,8 +64,7 @@ fn push_by_name(
 {
     let there = name_keys(alloc, parts)?;
     let marked = marked_keys(alloc, parts, shard)?;
-    push_names(faults, &there, &marked, decisions, shard)?;
-    Ok(())
+    push_names(faults, &there, &marked, decisions, shard)
 }
 
 /// The faults of a shard, of which all are kept, one perhaps more than once, or the least.

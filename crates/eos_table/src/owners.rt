@@ -14,32 +14,23 @@ fn least_of(loads: &[usize]) -> usize {
     least
 }
 
-fn add(loads: &mut [usize], thread: usize, more: usize) {
-    if let Some(load) = loads.get_mut(thread) {
-        *load = load.saturating_add(more);
-    }
-}
-
-fn no_loads(alloc: Global, threads: usize) -> Result<Vec<usize>, AllocError> {
-    let mut loads = Vec::new(alloc);
-    for _thread in 0..threads {
-        loads.push(0)?;
-    }
-    Ok(loads)
-}
-
 /// The thread for each part, by its list: in turn the one that has least to look at so far.
 pub(crate) fn owners_of(
     alloc: Global,
     lists: &[Vec<Close>],
     threads: usize,
 ) -> Result<Vec<usize>, AllocError> {
-    let mut loads = no_loads(alloc, threads)?;
+    let mut loads = Vec::new(alloc);
+    for _thread in 0..threads {
+        loads.push(0)?;
+    }
     let mut owners = Vec::new(alloc);
     for list in lists {
         let owner = least_of(loads.as_slice());
         owners.push(owner)?;
-        add(&mut loads, owner, list.len().saturating_add(1));
+        if let Some(load) = loads.get_mut(owner) {
+            *load = load.saturating_add(list.len().saturating_add(1));
+        }
     }
     Ok(owners)
 }

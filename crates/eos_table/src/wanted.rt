@@ -5,7 +5,7 @@ ghost use Rattle.eos_txnlog.specs.PartitionSets.{name_of, names_in_topic};
 ghost use Rattle.eos_fold.specs.Parts.{part_name};
 ghost use Rattle.std.specs.Option.{option_copied};
 ghost use Rattle.eos_table.specs.Wanted.{IsWantedOf};
-ghost use Rattle.eos_table.specs.steps.Wanted.{wanted_close, wish, wishes_in, wishes_of, wishes, IsAt, IsPut, Have, Take};
+ghost use Rattle.eos_table.specs.steps.Wanted.{wanted_close, wish, wishes_in, wishes_of, wishes, IsAt, Have, Take};
 
 use crate::key::{NameRef, name_of_part};
 use crate::shared::SharedDecision;
@@ -35,23 +35,17 @@ fn first_from(parts: &[Part], name: NameRef<'_>) -> usize {
 /// So many parts are looked at one after the other: most are passed by their numbers, and the order of texts takes longer than that.
 const FEW: usize = 32;
 
-/// The place of the part of this name, where there is one.
-fn first_of(parts: &[Part], name: NameRef<'_>) -> usize {
+/// Where the part of this name is, if it is there and the parts stand by name.
+fn likely_index(parts: &[Part], name: NameRef<'_>) -> usize {
+    if parts.len() > FEW {
+        return first_from(parts, name);
+    }
     for i in 0..parts.len() {
         if parts[i].partition() == name.partition && parts[i].topic() == name.topic {
             return i;
         }
     }
     parts.len()
-}
-
-/// Where the part of this name is, if it is there and the parts stand by name.
-fn likely_index(parts: &[Part], name: NameRef<'_>) -> usize {
-    if parts.len() <= FEW {
-        first_of(parts, name)
-    } else {
-        first_from(parts, name)
-    }
 }
 
 fn is_named(part: &Part, topic: &[u8], partition: &i32) -> bool
@@ -77,17 +71,6 @@ fn place_of(parts: &[Part], topic: &Bytes, partition: &i32) -> Option<usize>
     }
 }
 
-/// Puts the close at the end of the list at this place, if there is one.
-fn put(lists: &mut Vec<Vec<Close>>, place: usize, close: Close) -> Result<bool, AllocError>
-    ensures { IfOk result (λ yes. yes ≡ true → IsPut lists.old.items place close lists.new.items) }
-{
-    if place >= lists.len() {
-        return Ok(false);
-    }
-    lists[place].push(close)?;
-    Ok(true)
-}
-
 /// Takes up that the close is wanted in a partition, if that is found.
 fn want(
     lists: &mut Vec<Vec<Close>>,
@@ -98,10 +81,14 @@ fn want(
 ) -> Result<bool, AllocError>
     ensures { IfOk result (λ yes. yes ≡ true → Take parts.now (wish close (name_of topic.now partition.now) ∷ []) lists.old.items lists.new.items) }
 {
-    match place_of(parts, topic, partition) {
-        None => Ok(false),
-        Some(place) => put(lists, place, close),
+    let Some(place) = place_of(parts, topic, partition) else {
+        return Ok(false);
+    };
+    if place >= lists.len() {
+        return Ok(false);
     }
+    lists[place].push(close)?;
+    Ok(true)
 }
 
 fn want_topic(
