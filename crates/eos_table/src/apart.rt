@@ -3,10 +3,9 @@
 
 ghost use Rattle.std.specs.Prelude.{◌≡◌, ℕ, List, ◌∷◌, [], ◌++◌, true, Some, None, cond, IfOk, OnOk};
 ghost use Rattle.std.specs.Ordering.{nat_cmp, is_eq};
-ghost use Rattle.eos_table.specs.TransactionLog.{Id, same_id};
 ghost use Rattle.eos_table.specs.declared.mark.Mark.{Mark};
 ghost use Rattle.eos_table.specs.steps.Doubled.{doubled_at};
-ghost use Rattle.eos_table.specs.steps.Apart.{home_at, owner_at, owner_of, IsHome, Fits};
+ghost use Rattle.eos_table.specs.steps.Apart.{owner_at, owner_of, IsHome, Fits};
 
 use crate::mark::Mark;
 use bytes::Bytes;
@@ -39,15 +38,6 @@ fn is_in(home: &i32, mark: &Mark) -> bool
     *home == mark.partition
 }
 
-/// Puts down that the record's id is in its partition.
-fn add_home(homes: &mut Homes, mark: &Mark) -> Result<(), AllocError>
-    ensures { OnOk result ((id : Id) → home_at homes.new id ≡ cond (same_id mark.now.id id) (Some mark.now.partition) (home_at homes.old id)) }
-{
-    let key = mark.id.clone()?;
-    homes.insert(key, mark.partition)?;
-    Ok(())
-}
-
 /// Whether the record is in the partition of its id, which is this one where it has none yet.
 fn is_at_home(homes: &mut Homes, mark: &Mark) -> Result<bool, AllocError>
     ensures { IfOk result (λ yes. yes ≡ true → IsHome homes.old homes.new mark.now) }
@@ -55,7 +45,8 @@ fn is_at_home(homes: &mut Homes, mark: &Mark) -> Result<bool, AllocError>
     match homes.get(&mark.id) {
         Some(home) => Ok(is_in(home, mark)),
         None => {
-            add_home(homes, mark)?;
+            let key = mark.id.clone()?;
+            homes.insert(key, mark.partition)?;
             Ok(true)
         }
     }

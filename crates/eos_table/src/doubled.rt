@@ -2,9 +2,6 @@
 
 ghost use Rattle.std.specs.Prelude.{◌≡◌, List, ◌∷◌, [], ◌++◌, fold, IfOk, OnOk};
 ghost use Rattle.std.specs.Option.{option_copied};
-ghost use Rattle.std.specs.Ordering.{nat_cmp};
-ghost use Rattle.std.specs.Cmp.Lexicographic.{slice_cmp};
-ghost use Rattle.std.specs.BTreeMap.{get};
 ghost use Rattle.eos_table.specs.TransactionLog.{same_id};
 ghost use Rattle.eos_table.specs.declared.mark.Mark.{Mark};
 ghost use Rattle.eos_table.specs.steps.LogCandidates.{taken};
@@ -41,12 +38,6 @@ fn place_of(mark: &Mark) -> Place
     }
 }
 
-fn home_of(homes: &Homes, id: &Bytes) -> Option<i32>
-    ensures { result ≡ get (slice_cmp nat_cmp) homes.now id.now }
-{
-    homes.get(id).copied()
-}
-
 fn lesser_home(home: Option<i32>, partition: i32) -> i32
     ensures { result ≡ lesser_home home partition }
 {
@@ -76,7 +67,7 @@ fn take_home(faults: &mut LogFaults, homes: &mut Homes, mark: &Mark) -> Result<(
     ensures faults { (before : List Mark) → AreHomes homes.old before → OnOk result (faults.new ≡ fold taken faults.old (split_at mark.now (home_in before mark.now.id))) }
     ensures homes { (before : List Mark) → AreHomes homes.old before → OnOk result (AreHomes homes.new (before ++ mark.now ∷ [])) }
 {
-    let home = home_of(homes, &mark.id);
+    let home = homes.get(&mark.id).copied();
     push_split(faults, mark, home)?;
     let key = mark.id.clone()?;
     homes.insert(key, lesser_home(home, mark.partition))?;

@@ -66,20 +66,14 @@ impl Held {
     {
         match self.holding {
             Holding::Each => Ok(self.marks.push(copied(mark)?)?),
-            Holding::Apart => self.take_apart(mark),
+            Holding::Apart => {
+                if !take_mark(&mut self.owners, &mut self.homes, mark)? {
+                    self.holding = Holding::Nothing;
+                }
+                Ok(())
+            }
             Holding::Nothing => Ok(()),
         }
-    }
-
-    /// Holds a record against the tables, and gives them up where it doesn't stand apart.
-    fn take_apart(&mut self, mark: &Mark) -> Result<(), AllocError>
-        ensures { OnOk result (self.new.holding ≡ Apart → (self.old.holding ≡ Apart) × ((before : List Mark) → Fits self.old.owners self.old.homes before
-            → Fits self.new.owners self.new.homes (before ++ mark.now ∷ []) × (doubled_at before mark.now ≡ []))) }
-    {
-        if !take_mark(&mut self.owners, &mut self.homes, mark)? {
-            self.holding = Holding::Nothing;
-        }
-        Ok(())
     }
 
     /// Those that were taken up after so many, where each is held.
