@@ -153,14 +153,11 @@ pub(crate) fn read_event(alloc: Global, value: &Value) -> Result<Option<Event>, 
     let Some(word) = text_in(value, "event") else {
         return Ok(None);
     };
-    if word == "produce" {
-        read_produce(alloc, value)
-    } else if word == "broker-restart" {
-        read_restart(alloc, value)
-    } else if word == "elect" {
-        read_election(alloc, value)
-    } else {
-        Ok(read_plain_event(word, value))
+    match word {
+        "produce" => read_produce(alloc, value),
+        "broker-restart" => read_restart(alloc, value),
+        "elect" => read_election(alloc, value),
+        _ => Ok(read_plain_event(word, value)),
     }
 }
 
@@ -168,30 +165,34 @@ pub(crate) fn read_event(alloc: Global, value: &Value) -> Result<Option<Event>, 
 fn read_plain_event(word: &str, value: &Value) -> Option<Event>
     ensures { result ≡ plain_event word.now (view value.now) }
 {
-    if word == "feed" {
-        let source = size_in(value, "source")?;
-        Some(Event::Feed { source })
-    } else if word == "start" {
-        let application = size_in(value, "application")?;
-        Some(Event::Start { application })
-    } else if word == "deliver" {
-        let message = count_in(value, "message")?;
-        Some(Event::Deliver { message })
-    } else if word == "members" {
-        read_members(value)
-    } else if word == "coordinator-restart" {
-        Some(Event::CoordinatorRestart)
-    } else if word == "time-out" {
-        let application = size_in(value, "application")?;
-        Some(Event::TimeOut { application })
-    } else if word == "write-marker" {
-        let message = count_in(value, "message")?;
-        Some(Event::WriteMarker { message })
-    } else if word == "complete" {
-        let application = size_in(value, "application")?;
-        Some(Event::Complete { application })
-    } else {
-        read_event_of_session(word, value)
+    match word {
+        "feed" => match size_in(value, "source") {
+            Some(source) => Some(Event::Feed { source }),
+            None => None,
+        },
+        "start" => match size_in(value, "application") {
+            Some(application) => Some(Event::Start { application }),
+            None => None,
+        },
+        "deliver" => match count_in(value, "message") {
+            Some(message) => Some(Event::Deliver { message }),
+            None => None,
+        },
+        "members" => read_members(value),
+        "coordinator-restart" => Some(Event::CoordinatorRestart),
+        "time-out" => match size_in(value, "application") {
+            Some(application) => Some(Event::TimeOut { application }),
+            None => None,
+        },
+        "write-marker" => match count_in(value, "message") {
+            Some(message) => Some(Event::WriteMarker { message }),
+            None => None,
+        },
+        "complete" => match size_in(value, "application") {
+            Some(application) => Some(Event::Complete { application }),
+            None => None,
+        },
+        _ => read_event_of_session(word, value),
     }
 }
 
@@ -211,22 +212,25 @@ fn read_members(value: &Value) -> Option<Event>
 fn read_event_of_session(word: &str, value: &Value) -> Option<Event>
     ensures { result ≡ event_of_session word.now (view value.now) }
 {
-    let session = size_in(value, "session")?;
-    if word == "commit" {
-        read_commit(session, value)
-    } else if word == "end" {
-        let kind = kind_called(text_in(value, "kind")?)?;
-        Some(Event::End { session, kind })
-    } else if word == "resume" {
-        Some(Event::Resume { session })
-    } else if word == "fetch" {
-        let source = size_in(value, "source")?;
-        Some(Event::Fetch { session, source })
-    } else if word == "add-partition" {
-        let partition = read_partition(value)?;
-        Some(Event::AddPartition { session, partition })
-    } else {
-        None
+    let Some(session) = size_in(value, "session") else {
+        return None;
+    };
+    match word {
+        "commit" => read_commit(session, value),
+        "end" => {
+            let kind = kind_called(text_in(value, "kind")?)?;
+            Some(Event::End { session, kind })
+        }
+        "resume" => Some(Event::Resume { session }),
+        "fetch" => match size_in(value, "source") {
+            Some(source) => Some(Event::Fetch { session, source }),
+            None => None,
+        },
+        "add-partition" => match read_partition(value) {
+            Some(partition) => Some(Event::AddPartition { session, partition }),
+            None => None,
+        },
+        _ => None,
     }
 }
 

@@ -68,11 +68,9 @@ pub(crate) fn text_in<'a>(value: &'a Value, name: &str) -> Option<&'a str>
 pub(crate) fn kind_called(word: &str) -> Option<Kind>
     ensures { result ≡ kind_called word.now }
 {
-    if word == "commit" {
-        Some(Kind::Commit)
-    } else if word == "abort" {
-        Some(Kind::Abort)
-    } else {
-        None
+    match word {
+        "commit" => Some(Kind::Commit),
+        "abort" => Some(Kind::Abort),
+        _ => None,
     }
 }

@@ -3,7 +3,7 @@
 ghost use Rattle.std.specs.Prelude.{◌≡◌, IfOk, OnOk, codes, option_map};
 ghost use Rattle.serde_json.specs.View.{view};
 ghost use Rattle.eos_manifest.specs.Objects.{held};
-ghost use Rattle.eos_history_lines.specs.Lines.{with_subject, with_note};
+ghost use Rattle.eos_history_lines.specs.Lines.{with_note};
 ghost use Rattle.eos_history_lines.specs.steps.Reading.{count_in, text_in, note_called, note_said};
 ghost use Rattle.eos_machine.specs.declared.event.Note.TheVariants as notes;
 
@@ -15,18 +15,11 @@ use eos_manifest::Object;
 use serde_json::Value;
 use std::alloc::{AllocError, Global};
 
-#[tactic(auto, unfolding(crate::specs::Lines::with_note))]
+#[tactic(auto, unfolding(crate::specs::Lines::with_note, crate::specs::Lines::with_subject))]
 pub(crate) fn put_note(out: &mut Object, note: &Note) -> Result<(), AllocError>
     ensures { OnOk result (held out.new ≡ with_note note.now (held out.old)) }
 {
     out.put_str("note", note_word(note))?;
-    put_subject(out, note)
-}
-
-#[tactic(auto, unfolding(crate::specs::Lines::with_subject))]
-fn put_subject(out: &mut Object, note: &Note) -> Result<(), AllocError>
-    ensures { OnOk result (held out.new ≡ with_subject note.now (held out.old)) }
-{
     match note {
         Note::Lost(message) | Note::Repeated(message) => out.put_count("message", *message),
         Note::Erred(mishap) => out.put_text("mishap", mishap.as_slice()),
@@ -50,14 +43,11 @@ pub(crate) fn read_note(
 fn read_called(alloc: Global, word: &str, value: &Value) -> Result<Option<Note>, AllocError>
     ensures { IfOk result (λ note. note ≡ note_called word.now (view value.now)) }
 {
-    if word == "lost" {
-        Ok(lost_in(value))
-    } else if word == "repeated" {
-        Ok(repeated_in(value))
-    } else if word == "mishap" {
-        read_mishap(alloc, value)
-    } else {
-        Ok(None)
+    match word {
+        "lost" => Ok(lost_in(value)),
+        "repeated" => Ok(repeated_in(value)),
+        "mishap" => read_mishap(alloc, value),
+        _ => Ok(None),
     }
 }
 

@@ -19,44 +19,62 @@ use std::alloc::{AllocError, Global};
 pub(crate) fn read_head(value: &Value) -> Option<Head>
     ensures { result ≡ head_in (view value.now) }
 {
-    let config = read_sizes(value)?;
-    let switches = read_switches(value, "switches")?;
-    let seed = count_in(value, "seed")?;
-    let words = count_in(value, "words")?;
-    Some(Head {
-        config,
-        switches,
-        seed,
-        words,
-    })
+    match (
+        read_sizes(value),
+        read_switches(value, "switches"),
+        count_in(value, "seed"),
+        count_in(value, "words"),
+    ) {
+        (Some(config), Some(switches), Some(seed), Some(words)) => Some(Head {
+            config,
+            switches,
+            seed,
+            words,
+        }),
+        _ => None,
+    }
 }
 
 fn read_sizes(value: &Value) -> Option<Config>
     ensures { result ≡ sizes_in (view value.now) }
 {
-    let applications = size_in(value, "applications")?;
-    let inputs = size_in(value, "inputs")?;
-    let outputs = size_in(value, "outputs")?;
-    let transaction_logs = size_in(value, "transaction_logs")?;
-    let segment_records = size_in(value, "segment_records")?;
-    let batch_records = size_in(value, "batch_records")?;
-    let chain = value.get("chain")?.as_bool()?;
-    Some(Config {
-        applications,
-        inputs,
-        outputs,
-        transaction_logs,
-        segment_records,
-        batch_records,
-        chain,
-    })
+    match (
+        size_in(value, "applications"),
+        size_in(value, "inputs"),
+        size_in(value, "outputs"),
+        size_in(value, "transaction_logs"),
+        size_in(value, "segment_records"),
+        size_in(value, "batch_records"),
+        value.get("chain").and_then(Value::as_bool),
+    ) {
+        (
+            Some(applications),
+            Some(inputs),
+            Some(outputs),
+            Some(transaction_logs),
+            Some(segment_records),
+            Some(batch_records),
+            Some(chain),
+        ) => Some(Config {
+            applications,
+            inputs,
+            outputs,
+            transaction_logs,
+            segment_records,
+            batch_records,
+            chain,
+        }),
+        _ => None,
+    }
 }
 
 fn read_switches(value: &Value, name: &str) -> Option<Switches>
     ensures { result ≡ switches_at name.now (view value.now) }
 {
-    let names = value.get(name)?.as_array()?;
-    Some(switches_in(names.as_slice()))
+    match value.get(name).and_then(Value::as_array) {
+        Some(names) => Some(switches_in(names.as_slice())),
+        None => None,
+    }
 }
 
 pub(crate) fn read_line(alloc: Global, value: &Value) -> Result<Option<Line>, AllocError>
@@ -110,14 +128,18 @@ fn read_asked(alloc: Global, value: &Value) -> Result<Option<Deed>, AllocError>
 pub(crate) fn read_tail(value: &Value) -> Option<Tail>
     ensures { result ≡ tail_in (view value.now) }
 {
-    let events = count_in(value, "events")?;
-    let transactions = count_in(value, "transactions")?;
-    let lost = count_in(value, "lost")?;
-    let repeated = count_in(value, "repeated")?;
-    Some(Tail {
-        events,
-        transactions,
-        lost,
-        repeated,
-    })
+    match (
+        count_in(value, "events"),
+        count_in(value, "transactions"),
+        count_in(value, "lost"),
+        count_in(value, "repeated"),
+    ) {
+        (Some(events), Some(transactions), Some(lost), Some(repeated)) => Some(Tail {
+            events,
+            transactions,
+            lost,
+            repeated,
+        }),
+        _ => None,
+    }
 }

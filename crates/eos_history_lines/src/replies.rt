@@ -28,35 +28,25 @@ pub(crate) fn read_reply(value: &Value) -> Option<Option<Reply>>
 pub(crate) fn plain_reply(word: &str) -> Option<Reply>
     ensures { result ≡ plain_reply word.now }
 {
-    if word == "fenced" {
-        Some(Reply::Fenced)
-    } else if word == "out-of-order" {
-        Some(Reply::OutOfOrder)
-    } else if word == "duplicate-kept" {
-        Some(Reply::DuplicateKept)
-    } else if word == "wrong-state" {
-        Some(Reply::WrongState)
-    } else if word == "busy" {
-        Some(Reply::Busy)
-    } else {
-        refusal_called(word)
+    match word {
+        "fenced" => Some(Reply::Fenced),
+        "out-of-order" => Some(Reply::OutOfOrder),
+        "duplicate-kept" => Some(Reply::DuplicateKept),
+        "wrong-state" => Some(Reply::WrongState),
+        "busy" => Some(Reply::Busy),
+        _ => refusal_called(word),
     }
 }
 
 fn refusal_called(word: &str) -> Option<Reply>
     ensures { result ≡ refusal_called word.now }
 {
-    if word == "stale-generation" {
-        Some(Reply::StaleGeneration)
-    } else if word == "epochs-spent" {
-        Some(Reply::EpochsSpent)
-    } else if word == "unknown" {
-        Some(Reply::Unknown)
-    } else if word == "out-of-memory" {
-        Some(Reply::OutOfMemory)
-    } else if word == "full" {
-        Some(Reply::Full)
-    } else {
-        None
+    match word {
+        "stale-generation" => Some(Reply::StaleGeneration),
+        "epochs-spent" => Some(Reply::EpochsSpent),
+        "unknown" => Some(Reply::Unknown),
+        "out-of-memory" => Some(Reply::OutOfMemory),
+        "full" => Some(Reply::Full),
+        _ => None,
     }
 }

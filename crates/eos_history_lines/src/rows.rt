@@ -1,6 +1,6 @@
 //! Lines read from their texts.
 
-ghost use Rattle.std.specs.Prelude.{◌≡◌, ◌≢◌, ◌≤◌, ◌++◌, Err, Some, None, IfOk, IfErr, IfSome, IsUtf8, codes, string_bytes};
+ghost use Rattle.std.specs.Prelude.{◌≡◌, ◌≢◌, ◌≤◌, ◌++◌, true, false, Err, Some, None, IfOk, IfErr, IfSome, IsUtf8, codes, string_bytes};
 ghost use Rattle.serde_json.specs.Data.{depth};
 ghost use Rattle.serde_json.specs.Read.{read as read_text, max_depth};
 ghost use Rattle.serde_json.specs.View.{view};
@@ -38,12 +38,24 @@ pub fn head_of(alloc: Global, text: &[u8]) -> Result<Head, LineFault>
         Err(fault) => return Err(fault),
     };
     match exact_head(alloc, &value) {
-        Ok(Some(head)) => match look_for_doubles(alloc, text) {
-            Ok(()) => Ok(head),
-            Err(fault) => Err(fault),
+        Ok(exact) => match exact {
+            Some(head) => {
+                drop(value);
+                match look_for_doubles(alloc, text) {
+                    Ok(()) => Ok(head),
+                    Err(fault) => Err(fault),
+                }
+            }
+            None => {
+                let mistake = found(look_at_head(&value));
+                drop(value);
+                Err(LineFault::Mistaken(mistake))
+            }
         },
-        Ok(None) => Err(LineFault::Mistaken(found(look_at_head(&value)))),
-        Err(_) => Err(LineFault::OutOfMemory),
+        Err(_) => {
+            drop(value);
+            Err(LineFault::OutOfMemory)
+        }
     }
 }
 
@@ -61,12 +73,27 @@ pub fn row_of(alloc: Global, text: &[u8]) -> Result<Row, LineFault>
         Err(fault) => return Err(fault),
     };
     match exact_row(alloc, &value) {
-        Ok(Some(row)) => match look_for_doubles(alloc, text) {
-            Ok(()) => Ok(row),
-            Err(fault) => Err(fault),
+        Ok(exact) => match exact {
+            Some(row) => {
+                drop(value);
+                match look_for_doubles(alloc, text) {
+                    Ok(()) => Ok(row),
+                    Err(fault) => {
+                        drop(row);
+                        Err(fault)
+                    }
+                }
+            }
+            None => {
+                let mistake = found(look_at_row(&value));
+                drop(value);
+                Err(LineFault::Mistaken(mistake))
+            }
         },
-        Ok(None) => Err(LineFault::Mistaken(found(look_at_row(&value)))),
-        Err(_) => Err(LineFault::OutOfMemory),
+        Err(_) => {
+            drop(value);
+            Err(LineFault::OutOfMemory)
+        }
     }
 }
 
@@ -80,7 +107,9 @@ fn parse(alloc: Global, text: &[u8]) -> Result<Value, LineFault>
     match Value::from_slice(alloc, text) {
         Ok(value) => Ok(value),
         Err(error) => {
-            if error.is_memory() {
+            let refused = error.is_memory();
+            drop(error);
+            if refused {
                 Err(LineFault::OutOfMemory)
             } else {
                 Err(LineFault::NotJson)
@@ -110,12 +139,33 @@ fn exact_row(alloc: Global, value: &Value) -> Result<Option<Row>, AllocError>
     ensures none { IfOk result (λ row. row ≡ None → (r : Row) → FitsRow r → view value.now ≢ row_value r) }
 {
     let found = read_row(alloc, value)?;
-    let Some(row) = found else {
-        return Ok(None);
-    };
-    let written = row_text(alloc, &row)?;
-    let same = is_same(alloc, value, &written)?;
-    if same { Ok(Some(row)) } else { Ok(None) }
+    match found {
+        Some(row) => match is_row(alloc, value, &row) {
+            Ok(same) => {
+                if same {
+                    Ok(Some(row))
+                } else {
+                    drop(row);
+                    Ok(None)
+                }
+            }
+            Err(refused) => {
+                drop(row);
+                Err(refused)
+            }
+        },
+        None => Ok(None),
+    }
+}
+
+/// Whether a value is that of a line after the first.
+fn is_row(alloc: Global, value: &Value, row: &Row) -> Result<bool, AllocError>
+    requires { depth (view value.now) ≤ max_depth }
+    ensures same { IfOk result (λ same. same ≡ true → view value.now ≡ row_value row.now) }
+    ensures differ { IfOk result (λ same. same ≡ false → view value.now ≢ row_value row.now) }
+{
+    let written = row_text(alloc, row)?;
+    is_same(alloc, value, &written)
 }
 
 /// A line after the first, as it is written.

@@ -64,7 +64,10 @@ fn text_of(alloc: Global, made: Object) -> Result<String, AllocError>
     ensures reads { IfOk result (λ text. read_text (compact_text (object (held made))) ≡ Some (object (held made))) }
     ensures once { IfOk result (λ text. HasUniqueKeys (outline (object (held made))) → NamesOnce (compact_text (object (held made)))) }
 {
-    let mut text = made.into_value().to_string(alloc)?;
+    let value = made.into_value();
+    let said = value.to_string(alloc);
+    drop(value);
+    let mut text = said?;
     text.push_str("\n")?;
     Ok(text)
 }

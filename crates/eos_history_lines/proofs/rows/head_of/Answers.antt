@@ -1,4 +1,3 @@
-use Rattle.std.proofs.Common.{rules}
 use Rattle.eos_history_lines.specs.Lines.{head_value}
 use Rattle.eos_history_lines.proofs.ReadBack.{unread, unlike}
 use Rattle.eos_history_lines.proofs.rows.head_of.Goals as goal
@@ -6,5 +5,5 @@ use Rattle.eos_history_lines.proofs.rows.head_of.Goals as goal
 pub returns-in-Err-clause-err : goal.returns-in-Err-clause-err
 returns-in-Err-clause-err c = λ other utf8 x said. unread _ (head_value x) (c.in-Err.ensures.err other utf8) said.0
 
-pub returns-in-Ok-None-clause-err : goal.returns-in-Ok-None-clause-err
-returns-in-Ok-None-clause-err c = λ other utf8 x said. unlike _ _ (head_value x) c.in-Ok.ensures.ok (c.in-Ok-None.ensures.none (search rules) x) said.0
+pub returns-in-None-clause-err : goal.returns-in-None-clause-err
+returns-in-None-clause-err c = λ other utf8 x said. unlike _ _ (head_value x) c.in-Ok.ensures.ok (c.in-Ok-exact_head.ensures.none c.in-None.is x) said.0
