@@ -1,5 +1,6 @@
 pub mod Depths
 mod Floats
 mod Fresh
+mod LastCalls
 mod FilledTexts
 mod FilledReports

@@ -53,8 +53,7 @@ fn put_fault(alloc: Global, out: &mut Object, fault: &Fault) -> Result<(), Alloc
     out.put("code", Value::String(code))?;
     out.put_str("name", fault.name())?;
     out.put_count("phase", u64::from(fault.phase()))?;
-    put_where(out, fault)?;
-    Ok(())
+    put_where(out, fault)
 }
 
 #[tactic(auto, unfolding(crate::specs::FaultValues::code_of))]
@@ -88,8 +87,7 @@ fn put_partition_fault(out: &mut Object, fault: &PartitionFault) -> Result<(), A
     ensures { OnOk result (held out.new ≡ with_partition_fault fault.now (held out.old)) }
 {
     put_record(out, fault.topic.as_slice(), fault.partition, fault.offset)?;
-    put_details(out, fault.kind)?;
-    Ok(())
+    put_details(out, fault.kind)
 }
 
 #[tactic(auto, unfolding(crate::specs::FaultValues::with_details))]
@@ -122,8 +120,7 @@ fn put_log_fault(out: &mut Object, fault: &LogFault) -> Result<(), AllocError>
     let topic = "__transaction_state";
     put_record(out, topic.as_bytes(), fault.partition, fault.offset)?;
     put_id(out, fault.kind.id())?;
-    put_refusal(out, &fault.kind)?;
-    Ok(())
+    put_refusal(out, &fault.kind)
 }
 
 #[tactic(auto, unfolding(crate::specs::FaultValues::with_id))]
@@ -155,8 +152,7 @@ fn put_match_fault(out: &mut Object, fault: &MatchFault) -> Result<(), AllocErro
 {
     out.put_integer("producer", fault.producer)?;
     out.put_integer("epoch", i64::from(fault.epoch))?;
-    put_found(out, &fault.partition)?;
-    Ok(())
+    put_found(out, &fault.partition)
 }
 
 #[tactic(auto, unfolding(crate::specs::FaultValues::with_found))]
@@ -177,8 +173,7 @@ fn put_visible_fault(out: &mut Object, fault: &VisibleFault) -> Result<(), Alloc
 {
     let name = &fault.partition;
     put_record(out, name.topic.as_slice(), name.partition, fault.offset)?;
-    put_visible_details(out, fault.kind)?;
-    Ok(())
+    put_visible_details(out, fault.kind)
 }
 
 #[tactic(auto, unfolding(crate::specs::FaultValues::with_visible_details))]
@@ -202,8 +197,7 @@ fn put_output_fault(
     put_place(out, "source", &fault.source)?;
     out.put_count("output", u64::from(fault.output))?;
     put_claim(out, &fault.at)?;
-    put_group(out, group)?;
-    Ok(())
+    put_group(out, group)
 }
 
 #[tactic(auto, unfolding(crate::specs::FaultValues::with_claim))]

@@ -92,6 +92,7 @@ fn text_of_dated(alloc: Global, fault: &Fault, times: Timestamps) -> Result<Stri
     ensures read { IfOk result (λ _. IsRead (dated_value fault.now times)) }
 {
     let value = value_of_dated(alloc, fault, times)?;
-    let text = value.to_string(alloc)?;
-    Ok(text)
+    let text = value.to_string(alloc);
+    drop(value);
+    text
 }

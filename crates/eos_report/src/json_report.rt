@@ -67,8 +67,9 @@ fn frame_of(
     ensures { IfOk result (λ frame. IsFrame about.entry found.entry.verdict.now found.entry.dates.now found.entry.notes.now found.entry.tallies.now times (string_bytes frame)) }
 {
     let value = value_of_report(alloc, about, found, times)?;
-    let text = value.to_string(alloc)?;
-    Ok(text)
+    let text = value.to_string(alloc);
+    drop(value);
+    text
 }
 
 fn value_of_report(

@@ -16,7 +16,7 @@ use crate::verdict_json;
 use eos_manifest::Object;
 use eos_text::push_text;
 use eos_verdict::{Fault, Verdict, text_of_fault};
-use serde_json::{Value, json};
+use serde_json::Value;
 use std::alloc::{AllocError, Global};
 
 /// The JSON line of a verdict, with its line feed: its object, and of a no beside the text of the fault the fields of it.
@@ -27,7 +27,9 @@ pub fn json_line(alloc: Global, verdict: &Verdict) -> Result<String, AllocError>
     ensures { IfOk result (λ line. string_bytes line ≡ json_line verdict.now) }
 {
     let value = value_of_line(alloc, verdict)?;
-    let mut line = value.to_string(alloc)?;
+    let line = value.to_string(alloc);
+    drop(value);
+    let mut line = line?;
     line.push_str("\n")?;
     Ok(line)
 }
@@ -54,7 +56,7 @@ fn put_no(alloc: Global, out: &mut Object, fault: &Fault) -> Result<(), AllocErr
     ensures { OnOk result (held out.new ≡ with_member (codes "fields") (fault_value fault.now) (with_member (codes "answer") (string (codes "no")) (with_member (codes "fault") (string (fault_text fault.now)) (held out.old)))) }
 {
     let text = text_of_fault(alloc, fault)?;
-    out.put_str("fault", text.as_str())?;
+    out.put("fault", Value::String(text))?;
     out.put_str("answer", "no")?;
     let fields = value_of_fault(alloc, fault)?;
     out.put("fields", fields)
@@ -68,7 +70,8 @@ fn put_no(alloc: Global, out: &mut Object, fault: &Fault) -> Result<(), AllocErr
 pub fn fault_list_json(alloc: Global, about: &str, faults: &[Fault]) -> Result<String, AllocError>
     ensures { IfOk result (λ text. string_bytes text ≡ list_json about.now faults.now) }
 {
-    let mut text = json_lines(alloc, about, faults)?;
+    let mut text = String::new(alloc);
+    push_json_lines(alloc, &mut text, about, faults)?;
     let count = text_of_count(alloc, faults.len())?;
     push_text(&mut text, about)?;
     push_text(&mut text, count.as_str())?;
@@ -76,14 +79,18 @@ pub fn fault_list_json(alloc: Global, about: &str, faults: &[Fault]) -> Result<S
     Ok(text)
 }
 
-fn json_lines(alloc: Global, about: &str, faults: &[Fault]) -> Result<String, AllocError>
-    ensures { IfOk result (λ text. string_bytes text ≡ flat_map (fault_json_line about.now) faults.now) }
+fn push_json_lines(
+    alloc: Global,
+    out: &mut String,
+    about: &str,
+    faults: &[Fault],
+) -> Result<(), AllocError>
+    ensures { OnOk result (Adds (string_bytes out.old) (string_bytes out.new) (flat_map (fault_json_line about.now) faults.now)) }
 {
-    let mut text = String::new(alloc);
     for fault in faults {
-        push_json_line(alloc, &mut text, about, fault)?;
+        push_json_line(alloc, out, about, fault)?;
     }
-    Ok(text)
+    Ok(())
 }
 
 fn push_json_line(
@@ -97,28 +104,31 @@ fn push_json_line(
     let object = text_of_no(alloc, fault)?;
     push_text(out, about)?;
     push_text(out, object.as_str())?;
-    push_text(out, "\n")?;
-    Ok(())
+    push_text(out, "\n")
 }
 
 fn text_of_no(alloc: Global, fault: &Fault) -> Result<String, AllocError>
     ensures { IfOk result (λ text. string_bytes text ≡ compact_text (line_value (Verdict.No fault.now))) }
 {
     let value = value_of_no(alloc, fault)?;
-    let text = value.to_string(alloc)?;
-    Ok(text)
+    let text = value.to_string(alloc);
+    drop(value);
+    text
 }
 
 fn text_of_count(alloc: Global, count: usize) -> Result<String, AllocError>
     ensures { IfOk result (λ text. string_bytes text ≡ compact_text (count_value count)) }
 {
-    let value = json_of_count(alloc, count)?;
-    let text = value.to_string(alloc)?;
-    Ok(text)
+    let value = value_of_count(alloc, count)?;
+    let text = value.to_string(alloc);
+    drop(value);
+    text
 }
 
-fn json_of_count(alloc: Global, count: usize) -> Result<Value, AllocError>
+fn value_of_count(alloc: Global, count: usize) -> Result<Value, AllocError>
     ensures { IfOk result (λ value. view value ≡ count_value count) }
 {
-    json!(in alloc; { "faults": count })
+    let mut made = Object::new(alloc);
+    made.put_size("faults", count)?;
+    Ok(made.into_value())
 }

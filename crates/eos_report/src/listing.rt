@@ -17,21 +17,26 @@ use std::alloc::{AllocError, Global};
 pub fn fault_list(alloc: Global, about: &str, faults: &[Fault]) -> Result<String, AllocError>
     ensures { IfOk result (λ text. string_bytes text ≡ list_text about.now faults.now) }
 {
-    let mut text = fault_lines(alloc, about, faults)?;
+    let mut text = String::new(alloc);
+    push_lines(alloc, &mut text, about, faults)?;
     push_text(&mut text, about)?;
     push_value(&mut text, "faults=", &faults.len())?;
     push_text(&mut text, "\n")?;
     Ok(text)
 }
 
-fn fault_lines(alloc: Global, about: &str, faults: &[Fault]) -> Result<String, AllocError>
-    ensures { IfOk result (λ text. string_bytes text ≡ flat_map (fault_line about.now) faults.now) }
+fn push_lines(
+    alloc: Global,
+    out: &mut String,
+    about: &str,
+    faults: &[Fault],
+) -> Result<(), AllocError>
+    ensures { OnOk result (Adds (string_bytes out.old) (string_bytes out.new) (flat_map (fault_line about.now) faults.now)) }
 {
-    let mut text = String::new(alloc);
     for fault in faults {
-        push_line(alloc, &mut text, about, fault)?;
+        push_line(alloc, out, about, fault)?;
     }
-    Ok(text)
+    Ok(())
 }
 
 fn push_line(alloc: Global, out: &mut String, about: &str, fault: &Fault) -> Result<(), AllocError>
@@ -39,6 +44,5 @@ fn push_line(alloc: Global, out: &mut String, about: &str, fault: &Fault) -> Res
 {
     push_text(out, about)?;
     push_no(alloc, out, fault)?;
-    push_text(out, "\n")?;
-    Ok(())
+    push_text(out, "\n")
 }

@@ -1,6 +1,6 @@
 //! The page of a check, as HTML: for people, to attach to what they write of an incident. It needs nothing from outside.
 
-ghost use Rattle.std.specs.Prelude.{◌≡◌, ◌++◌, IfOk, OnOk, length, map, take, option_map, string_bytes};
+ghost use Rattle.std.specs.Prelude.{◌≡◌, ◌++◌, IfOk, OnOk, length, take, option_map, string_bytes};
 ghost use Rattle.std.specs.List.{flat_map, filter, find};
 ghost use Rattle.eos_text.specs.Adding.{Adds};
 ghost use Rattle.eos_report.specs.Pages.{yes_words, no_words, verdict_words, verdict_part, about_part, notes_part, is_of_kind, row_of, kind_row, phases, numbers, number_row, phase_rows, kinds_part, fault_item, first_part, faults_part, title_text, findings_text, body_text, IsPageText};
@@ -67,8 +67,7 @@ fn push_title(alloc: Global, out: &mut String, about: About<'_>) -> Result<(), A
         "<!DOCTYPE html>\n<html lang=\"en\">\n<head>\n<meta charset=\"utf-8\">\n<meta name=\"viewport\" content=\"width=device-width, initial-scale=1\">\n<title>eoscheck: ",
     )?;
     push_html(alloc, out, about.folder)?;
-    push_text(out, "</title>\n")?;
-    Ok(())
+    push_text(out, "</title>\n")
 }
 
 fn push_body(
@@ -83,8 +82,7 @@ fn push_body(
     push_about(alloc, out, about)?;
     push_findings(alloc, out, found)?;
     push_partitions(alloc, out, found.tallies)?;
-    push_groups(alloc, out, found.tallies)?;
-    Ok(())
+    push_groups(alloc, out, found.tallies)
 }
 
 fn push_about(alloc: Global, out: &mut String, about: About<'_>) -> Result<(), AllocError>
@@ -95,8 +93,7 @@ fn push_about(alloc: Global, out: &mut String, about: About<'_>) -> Result<(), A
     push_text(out, "<br>\neoscheck ")?;
     push_html(alloc, out, about.version)?;
     push_value(out, ", workers: ", &about.workers)?;
-    push_text(out, "</p>\n")?;
-    Ok(())
+    push_text(out, "</p>\n")
 }
 
 fn push_findings(alloc: Global, out: &mut String, found: Findings<'_>) -> Result<(), AllocError>
@@ -104,8 +101,7 @@ fn push_findings(alloc: Global, out: &mut String, found: Findings<'_>) -> Result
 {
     push_verdict(alloc, out, found.verdict, found.faults)?;
     push_notes(alloc, out, found.notes)?;
-    push_faults(alloc, out, found.verdict, found.faults)?;
-    Ok(())
+    push_faults(alloc, out, found.verdict, found.faults)
 }
 
 // ---- the verdict and the notes
@@ -122,8 +118,7 @@ fn push_verdict(
     push_text(out, "<pre class=\"line\">")?;
     push_html(alloc, out, line.as_str())?;
     push_text(out, "</pre>\n")?;
-    push_words(out, verdict, faults)?;
-    Ok(())
+    push_words(out, verdict, faults)
 }
 
 fn push_words(out: &mut String, verdict: &Verdict, faults: &[Fault]) -> Result<(), AllocError>
@@ -148,8 +143,7 @@ fn push_yes(out: &mut String, counts: Counts) -> Result<(), AllocError>
     push_text(
         out,
         ".</p>\n<p>The logs are whole and fenced, no sequence is repeated or missing in a producer epoch, every transaction is committed in all its partitions or aborted in all, and the visible outputs are, for each input below its group's committed offset, its numbered outputs or one note, each once, and nothing else. That these are the cluster's whole logs, and that each output has the right value, no log can tell.</p>\n",
-    )?;
-    Ok(())
+    )
 }
 
 fn push_no(out: &mut String, faults: &[Fault]) -> Result<(), AllocError>
@@ -163,8 +157,7 @@ fn push_no(out: &mut String, faults: &[Fault]) -> Result<(), AllocError>
     push_text(
         out,
         ".</p>\n<p>A fault counts only where those that come before it in the order of the phases have none: partitions, the transaction log, both against each other, records, outputs.</p>\n",
-    )?;
-    Ok(())
+    )
 }
 
 fn push_notes(alloc: Global, out: &mut String, notes: &[Note]) -> Result<(), AllocError>
@@ -173,8 +166,7 @@ fn push_notes(alloc: Global, out: &mut String, notes: &[Note]) -> Result<(), All
     let lines = note_lines(alloc, notes)?;
     push_text(out, "<h2>Notes</h2>\n<pre>")?;
     push_html(alloc, out, lines.as_str())?;
-    push_text(out, "</pre>\n")?;
-    Ok(())
+    push_text(out, "</pre>\n")
 }
 
 // ---- the faults
@@ -196,9 +188,8 @@ fn push_faults(
 fn push_told(alloc: Global, out: &mut String, faults: &[Fault]) -> Result<(), AllocError>
     ensures { OnOk result (Adds (string_bytes out.old) (string_bytes out.new) (kinds_part faults.now ++ first_part faults.now)) }
 {
-    push_kinds(alloc, out, faults)?;
-    push_first(alloc, out, faults)?;
-    Ok(())
+    push_kinds(out, faults)?;
+    push_first(alloc, out, faults)
 }
 
 static PHASES: [u8; 5] = [1, 2, 3, 4, 5];
@@ -219,71 +210,47 @@ fn numbers() -> &'static [u8]
     NUMBERS.as_slice()
 }
 
-fn push_kinds(alloc: Global, out: &mut String, faults: &[Fault]) -> Result<(), AllocError>
+fn push_kinds(out: &mut String, faults: &[Fault]) -> Result<(), AllocError>
     ensures { OnOk result (Adds (string_bytes out.old) (string_bytes out.new) (kinds_part faults.now)) }
 {
-    let rows = kind_rows(alloc, faults, phases())?;
     push_text(
         out,
         "<h2>Faults by kind</h2>\n<p>What a kind means and what makes it happen tells <code>eoscheck explain --code KIND</code>.</p>\n<div><table>\n<tr><th>Kind</th><th>Name</th><th>Told</th></tr>\n",
     )?;
-    push_text(out, rows.as_str())?;
-    push_text(out, "</table></div>\n")?;
+    push_phases(out, faults, phases())?;
+    push_text(out, "</table></div>\n")
+}
+
+fn push_phases(out: &mut String, faults: &[Fault], phases: &[u8]) -> Result<(), AllocError>
+    ensures { OnOk result (Adds (string_bytes out.old) (string_bytes out.new) (flat_map (phase_rows faults.now) phases.now)) }
+{
+    for phase in phases {
+        push_phase(out, faults, *phase, numbers())?;
+    }
     Ok(())
 }
 
-fn kind_rows(alloc: Global, faults: &[Fault], phases: &[u8]) -> Result<String, AllocError>
-    ensures { IfOk result (λ text. string_bytes text ≡ flat_map (phase_rows faults.now) phases.now) }
-{
-    let mut text = String::new(alloc);
-    for phase in phases {
-        push_phase(alloc, &mut text, faults, *phase)?;
-    }
-    Ok(text)
-}
-
+/// Adds the rows of those kinds of a phase that have these numbers.
 fn push_phase(
-    alloc: Global,
     out: &mut String,
-    faults: &[Fault],
-    phase: u8,
-) -> Result<(), AllocError>
-    ensures { OnOk result (Adds (string_bytes out.old) (string_bytes out.new) (phase_rows faults.now phase)) }
-{
-    let rows = number_rows(alloc, faults, phase, numbers())?;
-    push_text(out, rows.as_str())
-}
-
-fn number_rows(
-    alloc: Global,
     faults: &[Fault],
     phase: u8,
     numbers: &[u8],
-) -> Result<String, AllocError>
-    ensures { IfOk result (λ text. string_bytes text ≡ flat_map (number_row faults.now phase) numbers.now) }
+) -> Result<(), AllocError>
+    ensures { OnOk result (Adds (string_bytes out.old) (string_bytes out.new) (flat_map (number_row faults.now phase) numbers.now)) }
 {
-    let mut text = String::new(alloc);
     for number in numbers {
-        push_number(alloc, &mut text, faults, phase, *number)?;
+        push_number(out, faults, phase, *number)?;
     }
-    Ok(text)
+    Ok(())
 }
 
-fn push_number(
-    alloc: Global,
-    out: &mut String,
-    faults: &[Fault],
-    phase: u8,
-    number: u8,
-) -> Result<(), AllocError>
+fn push_number(out: &mut String, faults: &[Fault], phase: u8, number: u8) -> Result<(), AllocError>
     ensures { OnOk result (Adds (string_bytes out.old) (string_bytes out.new) (number_row faults.now phase number)) }
 {
     match first_of_kind(faults, phase, number) {
         None => push_text(out, ""),
-        Some(fault) => {
-            let count = count_of_kind(alloc, faults, phase, number)?;
-            push_row(out, fault, count)
-        }
+        Some(fault) => push_row(out, fault, count_of_kind(faults, phase, number)),
     }
 }
 
@@ -306,34 +273,16 @@ fn first_of_kind(faults: &[Fault], phase: u8, number: u8) -> Option<&Fault>
 }
 
 /// How many there are of one kind.
-fn count_of_kind(
-    alloc: Global,
-    faults: &[Fault],
-    phase: u8,
-    number: u8,
-) -> Result<usize, AllocError>
-    ensures { IfOk result (λ count. count ≡ length (filter (is_of_kind phase number) faults.now)) }
+fn count_of_kind(faults: &[Fault], phase: u8, number: u8) -> usize
+    ensures { result ≡ length (filter (is_of_kind phase number) faults.now) }
 {
-    let found = of_kind(alloc, faults, phase, number)?;
-    Ok(found.len())
-}
-
-/// Those of one kind, in their order.
-fn of_kind<'a>(
-    alloc: Global,
-    faults: &'a [Fault],
-    phase: u8,
-    number: u8,
-) -> Result<Vec<&'a Fault>, AllocError>
-    ensures { IfOk result (λ found. map (λ f. f.now) found.items ≡ filter (is_of_kind phase number) faults.now) }
-{
-    let mut found = Vec::new(alloc);
+    let mut count = 0;
     for fault in faults {
         if is_of_kind(fault, phase, number) {
-            found.push(fault)?;
+            count += 1;
         }
     }
-    Ok(found)
+    count
 }
 
 fn push_row(out: &mut String, fault: &Fault, count: usize) -> Result<(), AllocError>
@@ -343,21 +292,18 @@ fn push_row(out: &mut String, fault: &Fault, count: usize) -> Result<(), AllocEr
     push_value(out, ".", &fault.number())?;
     push_value(out, "</td><td>", &fault.name())?;
     push_value(out, "</td><td>", &count)?;
-    push_text(out, "</td></tr>\n")?;
-    Ok(())
+    push_text(out, "</td></tr>\n")
 }
 
 fn push_first(alloc: Global, out: &mut String, faults: &[Fault]) -> Result<(), AllocError>
     ensures { OnOk result (Adds (string_bytes out.old) (string_bytes out.new) (first_part faults.now)) }
 {
-    let items = fault_items(alloc, first_of(faults))?;
     push_text(
         out,
         "<h2>The first faults</h2>\n<p>Where the fault of number N comes from in the logs tells <code>eoscheck explain --fault N FOLDER</code>, and <code>eoscheck draw --fault N FOLDER FILE.svg</code> draws it.</p>\n<ol>\n",
     )?;
-    push_text(out, items.as_str())?;
-    push_text(out, "</ol>\n")?;
-    Ok(())
+    push_items(alloc, out, first_of(faults))?;
+    push_text(out, "</ol>\n")
 }
 
 /// At most the first ten.
@@ -368,14 +314,13 @@ fn first_of(faults: &[Fault]) -> &[Fault]
     &faults[..FIRST.min(faults.len())]
 }
 
-fn fault_items(alloc: Global, faults: &[Fault]) -> Result<String, AllocError>
-    ensures { IfOk result (λ text. string_bytes text ≡ flat_map fault_item faults.now) }
+fn push_items(alloc: Global, out: &mut String, faults: &[Fault]) -> Result<(), AllocError>
+    ensures { OnOk result (Adds (string_bytes out.old) (string_bytes out.new) (flat_map fault_item faults.now)) }
 {
-    let mut text = String::new(alloc);
     for fault in faults {
-        push_item(alloc, &mut text, fault)?;
+        push_item(alloc, out, fault)?;
     }
-    Ok(text)
+    Ok(())
 }
 
 fn push_item(alloc: Global, out: &mut String, fault: &Fault) -> Result<(), AllocError>
@@ -384,6 +329,5 @@ fn push_item(alloc: Global, out: &mut String, fault: &Fault) -> Result<(), Alloc
     let text = text_of_fault(alloc, fault)?;
     push_text(out, "<li>")?;
     push_html(alloc, out, text.as_str())?;
-    push_text(out, "</li>\n")?;
-    Ok(())
+    push_text(out, "</li>\n")
 }

@@ -1,6 +1,6 @@
 //! The tables of a page.
 
-ghost use Rattle.std.specs.Prelude.{◌≡◌, IfOk, OnOk, string_bytes};
+ghost use Rattle.std.specs.Prelude.{OnOk, string_bytes};
 ghost use Rattle.std.specs.List.{flat_map};
 ghost use Rattle.eos_text.specs.Adding.{Adds};
 ghost use Rattle.eos_report.specs.PageTables.{name_cell, count_cell, offset_cell, visible_cell, word_if, roles_cell, sizes_cells, partition_row, partitions_text, group_cell, source_row, group_rows, known_groups, groups_text};
@@ -23,24 +23,21 @@ fn push_name(
 {
     push_escaped(alloc, out, "<td>", topic)?;
     push_value(out, "-", partition)?;
-    push_text(out, "</td>")?;
-    Ok(())
+    push_text(out, "</td>")
 }
 
 fn push_count(out: &mut String, count: u64) -> Result<(), AllocError>
     ensures { OnOk result (Adds (string_bytes out.old) (string_bytes out.new) (count_cell count)) }
 {
     push_value(out, "<td>", &count)?;
-    push_text(out, "</td>")?;
-    Ok(())
+    push_text(out, "</td>")
 }
 
 fn push_offset(out: &mut String, offset: &i64) -> Result<(), AllocError>
     ensures { OnOk result (Adds (string_bytes out.old) (string_bytes out.new) (offset_cell offset.now)) }
 {
     push_value(out, "<td>", offset)?;
-    push_text(out, "</td>")?;
-    Ok(())
+    push_text(out, "</td>")
 }
 
 fn push_visible(out: &mut String, count: Option<u64>) -> Result<(), AllocError>
@@ -70,8 +67,7 @@ fn push_roles(out: &mut String, roles: TopicRoles) -> Result<(), AllocError>
     push_word(out, roles.output, "output ")?;
     push_word(out, roles.offsets_log, "offsets ")?;
     push_word(out, roles.transaction_log, "transactions ")?;
-    push_text(out, "</td>")?;
-    Ok(())
+    push_text(out, "</td>")
 }
 
 // ---- partitions
@@ -84,24 +80,21 @@ pub(crate) fn push_partitions(
 ) -> Result<(), AllocError>
     ensures { OnOk result (Adds (string_bytes out.old) (string_bytes out.new) (partitions_text tallies.now)) }
 {
-    let rows = partition_rows(alloc, tallies.partitions.as_slice())?;
     push_text(
         out,
         "<h2>Partitions</h2>\n<div><table>\n<tr><th>Partition</th><th>Is</th><th>End</th><th>Batches</th><th>Records</th><th>Visible</th><th>Segments</th><th>Bytes</th></tr>\n",
     )?;
-    push_text(out, rows.as_str())?;
-    push_text(out, "</table></div>\n")?;
-    Ok(())
+    push_rows(alloc, out, tallies.partitions.as_slice())?;
+    push_text(out, "</table></div>\n")
 }
 
-fn partition_rows(alloc: Global, tallies: &[PartitionTally]) -> Result<String, AllocError>
-    ensures { IfOk result (λ text. string_bytes text ≡ flat_map partition_row tallies.now) }
+fn push_rows(alloc: Global, out: &mut String, tallies: &[PartitionTally]) -> Result<(), AllocError>
+    ensures { OnOk result (Adds (string_bytes out.old) (string_bytes out.new) (flat_map partition_row tallies.now)) }
 {
-    let mut text = String::new(alloc);
     for tally in tallies {
-        push_partition(alloc, &mut text, tally)?;
+        push_partition(alloc, out, tally)?;
     }
-    Ok(text)
+    Ok(())
 }
 
 fn push_partition(alloc: Global, out: &mut String, tally: &PartitionTally) -> Result<(), AllocError>
@@ -112,8 +105,7 @@ fn push_partition(alloc: Global, out: &mut String, tally: &PartitionTally) -> Re
     push_roles(out, tally.roles)?;
     push_offset(out, &tally.end)?;
     push_sizes(out, tally)?;
-    push_text(out, "</tr>\n")?;
-    Ok(())
+    push_text(out, "</tr>\n")
 }
 
 fn push_sizes(out: &mut String, tally: &PartitionTally) -> Result<(), AllocError>
@@ -123,8 +115,7 @@ fn push_sizes(out: &mut String, tally: &PartitionTally) -> Result<(), AllocError
     push_count(out, tally.data_records)?;
     push_visible(out, tally.visible_records)?;
     push_count(out, tally.segments)?;
-    push_count(out, tally.bytes)?;
-    Ok(())
+    push_count(out, tally.bytes)
 }
 
 // ---- groups
@@ -142,8 +133,7 @@ pub(crate) fn push_groups(
         "<h2>Groups</h2>\n<div><table>\n<tr><th>Group</th><th>Source</th><th>Committed</th><th>End</th><th>Visible inputs below</th></tr>\n",
     )?;
     push_known(alloc, out, &tallies.groups)?;
-    push_text(out, "</table></div>\n")?;
-    Ok(())
+    push_text(out, "</table></div>\n")
 }
 
 fn push_known(
@@ -158,42 +148,31 @@ fn push_known(
             out,
             "<tr><td colspan=\"5\">not known, since the log of a partition has a fault of its own</td></tr>\n",
         ),
-        Some(groups) => {
-            let rows = rows_of_groups(alloc, groups.as_slice())?;
-            push_text(out, rows.as_str())
-        }
+        Some(groups) => push_listed(alloc, out, groups.as_slice()),
     }
 }
 
-fn rows_of_groups(alloc: Global, groups: &[GroupTally]) -> Result<String, AllocError>
-    ensures { IfOk result (λ text. string_bytes text ≡ flat_map group_rows groups.now) }
+fn push_listed(alloc: Global, out: &mut String, groups: &[GroupTally]) -> Result<(), AllocError>
+    ensures { OnOk result (Adds (string_bytes out.old) (string_bytes out.new) (flat_map group_rows groups.now)) }
 {
-    let mut text = String::new(alloc);
     for group in groups {
-        push_sources(alloc, &mut text, group)?;
+        push_sources(alloc, out, &group.group, group.sources.as_slice())?;
     }
-    Ok(text)
+    Ok(())
 }
 
-fn push_sources(alloc: Global, out: &mut String, group: &GroupTally) -> Result<(), AllocError>
-    ensures { OnOk result (Adds (string_bytes out.old) (string_bytes out.new) (group_rows group.now)) }
-{
-    let rows = source_rows(alloc, &group.group, group.sources.as_slice())?;
-    push_text(out, rows.as_str())
-}
-
-fn source_rows(
+fn push_sources(
     alloc: Global,
+    out: &mut String,
     group: &GroupId,
     sources: &[SourceTally],
-) -> Result<String, AllocError>
-    ensures { IfOk result (λ text. string_bytes text ≡ flat_map (source_row group.now) sources.now) }
+) -> Result<(), AllocError>
+    ensures { OnOk result (Adds (string_bytes out.old) (string_bytes out.new) (flat_map (source_row group.now) sources.now)) }
 {
-    let mut text = String::new(alloc);
     for source in sources {
-        push_source(alloc, &mut text, group, source)?;
+        push_source(alloc, out, group, source)?;
     }
-    Ok(text)
+    Ok(())
 }
 
 fn push_source(
@@ -209,14 +188,12 @@ fn push_source(
     push_offset(out, &tally.committed)?;
     push_offset(out, &tally.end)?;
     push_count(out, tally.visible_inputs_below)?;
-    push_text(out, "</tr>\n")?;
-    Ok(())
+    push_text(out, "</tr>\n")
 }
 
 fn push_group(alloc: Global, out: &mut String, group: &GroupId) -> Result<(), AllocError>
     ensures { OnOk result (Adds (string_bytes out.old) (string_bytes out.new) (group_cell group.now)) }
 {
     push_escaped(alloc, out, "<tr><td>", group.as_bytes())?;
-    push_text(out, "</td>")?;
-    Ok(())
+    push_text(out, "</td>")
 }

@@ -18,8 +18,7 @@ pub(crate) fn put_partition(
     ensures { OnOk result (held out.new ≡ with_partition topic.now partition (held out.old)) }
 {
     out.put_integer("partition", i64::from(partition))?;
-    out.put_text("topic", topic)?;
-    Ok(())
+    out.put_text("topic", topic)
 }
 
 #[tactic(auto, unfolding(crate::specs::Values::with_place))]
@@ -32,8 +31,7 @@ pub(crate) fn put_record(
     ensures { OnOk result (held out.new ≡ with_place topic.now partition offset (held out.old)) }
 {
     put_partition(out, topic, partition)?;
-    out.put_count("offset", offset)?;
-    Ok(())
+    out.put_count("offset", offset)
 }
 
 /// Puts a member in that is the object of a place.

@@ -8,9 +8,10 @@ ghost use Rattle.eos_verdict.specs.VerdictTexts.{verdict_line};
 ghost use Rattle.eos_report.specs.VerdictValues.{verdict_value};
 
 use crate::fault::ReportFault;
+use eos_manifest::Object;
 use eos_text::finish;
 use eos_verdict::{Counts, Fault, Verdict, text_of_fault, verdict_line};
-use serde_json::{Value, json};
+use serde_json::Value;
 use std::alloc::{AllocError, Global};
 use std::io::Write;
 
@@ -50,15 +51,12 @@ pub fn verdict_json(alloc: Global, verdict: &Verdict) -> Result<Value, AllocErro
 fn json_of_counts(alloc: Global, counts: Counts) -> Result<Value, AllocError>
     ensures { IfOk result (λ value. view value ≡ verdict_value (Verdict.Yes counts)) }
 {
-    let inputs = counts.inputs;
-    let outputs = counts.outputs;
-    let transactions = counts.transactions;
-    json!(in alloc; {
-        "answer": "yes",
-        "inputs": inputs,
-        "outputs": outputs,
-        "transactions": transactions
-    })
+    let mut made = Object::new(alloc);
+    made.put_str("answer", "yes")?;
+    made.put_count("inputs", counts.inputs)?;
+    made.put_count("outputs", counts.outputs)?;
+    made.put_count("transactions", counts.transactions)?;
+    Ok(made.into_value())
 }
 
 /// The JSON object of a verdict that names this fault.
@@ -69,9 +67,8 @@ pub fn no_json(alloc: Global, fault: &Fault) -> Result<Value, AllocError>
     ensures { IfOk result (λ value. view value ≡ verdict_value (Verdict.No fault.now)) }
 {
     let text = text_of_fault(alloc, fault)?;
-    let text = text.as_str();
-    json!(in alloc; {
-        "answer": "no",
-        "fault": text
-    })
+    let mut made = Object::new(alloc);
+    made.put("fault", Value::String(text))?;
+    made.put_str("answer", "no")?;
+    Ok(made.into_value())
 }

@@ -1,6 +1,6 @@
 //! How a page ends: the stories of its faults, and their pictures.
 
-ghost use Rattle.std.specs.Prelude.{◌≡◌, IfOk, OnOk, string_bytes};
+ghost use Rattle.std.specs.Prelude.{OnOk, string_bytes};
 ghost use Rattle.std.specs.List.{flat_map};
 ghost use Rattle.eos_text.specs.Adding.{Adds};
 ghost use Rattle.eos_report.specs.Tellings.{lack_text, shown_story, story_text, shown_picture, picture_text, telling_text, heading_text, tellings_text, end_text};
@@ -34,17 +34,14 @@ pub fn end_page(alloc: Global, out: &mut String, tellings: &[Telling]) -> Result
     ensures { OnOk result (Adds (string_bytes out.old) (string_bytes out.new) (end_text tellings.now)) }
 {
     push_tellings(alloc, out, tellings)?;
-    push_text(out, "</body>\n</html>\n")?;
-    Ok(())
+    push_text(out, "</body>\n</html>\n")
 }
 
 fn push_tellings(alloc: Global, out: &mut String, tellings: &[Telling]) -> Result<(), AllocError>
     ensures { OnOk result (Adds (string_bytes out.old) (string_bytes out.new) (tellings_text tellings.now)) }
 {
-    let items = telling_items(alloc, tellings)?;
     push_heading(out, tellings.is_empty())?;
-    push_text(out, items.as_str())?;
-    Ok(())
+    push_items(alloc, out, tellings)
 }
 
 fn push_heading(out: &mut String, none: bool) -> Result<(), AllocError>
@@ -57,14 +54,13 @@ fn push_heading(out: &mut String, none: bool) -> Result<(), AllocError>
     }
 }
 
-fn telling_items(alloc: Global, tellings: &[Telling]) -> Result<String, AllocError>
-    ensures { IfOk result (λ text. string_bytes text ≡ flat_map telling_text tellings.now) }
+fn push_items(alloc: Global, out: &mut String, tellings: &[Telling]) -> Result<(), AllocError>
+    ensures { OnOk result (Adds (string_bytes out.old) (string_bytes out.new) (flat_map telling_text tellings.now)) }
 {
-    let mut text = String::new(alloc);
     for telling in tellings {
-        push_telling(alloc, &mut text, telling)?;
+        push_telling(alloc, out, telling)?;
     }
-    Ok(text)
+    Ok(())
 }
 
 fn push_telling(alloc: Global, out: &mut String, telling: &Telling) -> Result<(), AllocError>
@@ -73,8 +69,7 @@ fn push_telling(alloc: Global, out: &mut String, telling: &Telling) -> Result<()
     push_value(out, "<h3>Fault ", &telling.number)?;
     push_text(out, "</h3>\n")?;
     push_story(alloc, out, &telling.story)?;
-    push_picture(alloc, out, &telling.picture)?;
-    Ok(())
+    push_picture(alloc, out, &telling.picture)
 }
 
 fn push_story(alloc: Global, out: &mut String, told: &Told) -> Result<(), AllocError>
@@ -91,8 +86,7 @@ fn push_shown(alloc: Global, out: &mut String, text: &str) -> Result<(), AllocEr
 {
     push_text(out, "<pre>")?;
     push_html(alloc, out, text)?;
-    push_text(out, "</pre>\n")?;
-    Ok(())
+    push_text(out, "</pre>\n")
 }
 
 fn push_picture(alloc: Global, out: &mut String, told: &Told) -> Result<(), AllocError>
@@ -109,8 +103,7 @@ fn push_drawn(out: &mut String, text: &str) -> Result<(), AllocError>
 {
     push_text(out, "<div>\n")?;
     push_text(out, text)?;
-    push_text(out, "</div>\n")?;
-    Ok(())
+    push_text(out, "</div>\n")
 }
 
 fn push_lack(alloc: Global, out: &mut String, what: &str, why: &str) -> Result<(), AllocError>
@@ -120,6 +113,5 @@ fn push_lack(alloc: Global, out: &mut String, what: &str, why: &str) -> Result<(
     push_text(out, what)?;
     push_text(out, ": ")?;
     push_html(alloc, out, why)?;
-    push_text(out, "</p>\n")?;
-    Ok(())
+    push_text(out, "</p>\n")
 }

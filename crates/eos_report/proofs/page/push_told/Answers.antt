@@ -1,5 +1,5 @@
-use Rattle.eos_text.proofs.Appended.{then}
+use Rattle.eos_report.proofs.LastCalls.{last}
 use Rattle.eos_report.proofs.page.push_told.Goals as goal
 
 pub returns : goal.returns
-returns c = then c.in_ok-push_kinds.ensures c.in_ok-push_first.ensures
+returns c = last _ _ _ c.in_ok-push_kinds.ensures c.push_first.ensures

@@ -1,7 +1,0 @@
-use Rattle.std.proofs.Common.{◌≡◌, take, map}
-use Rattle.std.specs.List.{filter}
-use Rattle.eos_report.specs.Pages.{is_of_kind}
-use Rattle.eos_report.proofs.page.of_kind.Given as goal
-
-abbrev pub invariant-loop-fault : goal.invariant-loop-fault
-invariant-loop-fault l = map (λ f. f.now) l.found.items ≡ filter (is_of_kind l.phase l.number) (take l.fault-index l.faults)
