@@ -10,7 +10,8 @@ partitions, rounded up, make; where there are 4,096 claims or more, the sort of 
 in at most M, which is one to three where there is one source partition.
 
 Where outputs are amiss, `explain` looks for all their faults, in as many ranges of their sources as there are workers where these are few: behind
-what `check` starts, N - 1.
+what `check` starts, N - 1. Then it reads the partitions that its story names, N at a time: here three for their folds, after the one in which the
+fault stands, and four for the times of rows.
 
 Without `--workers` there are four. Who asks `check_lineage` and names no number gets at most 64: tests/unproved.py asks that.
 
@@ -97,6 +98,11 @@ def check_runs(program, library):
             )
 
 
+def rounds(things, workers):
+    """How many threads are started for so many things, of which as many are done at a time as there are workers."""
+    return sum(min(workers, things - first) - 1 for first in range(0, things, workers))
+
+
 def explain_runs(program, library):
     """The same of `explain` beside `check`, where the group is another and each output is amiss, and whether `check --all` lists just
     these, in the order of inputs, by however many ranges."""
@@ -114,7 +120,8 @@ def explain_runs(program, library):
             checked, before, _ = counted([program, "check", *words, made], library)
             told, started, most = counted([program, "explain", *words, made], library)
             listed, _, _ = counted([program, "check", "--all", *words, made], library)
-            right = (checked.returncode, told.returncode) == (1, 1) and started == before + workers - 1 and most <= workers - 1
+            more = workers - 1 + rounds(3, workers) + rounds(4, workers)
+            right = (checked.returncode, told.returncode) == (1, 1) and started == before + more and most <= workers - 1
             right = right and listed.stdout.splitlines() == [*early, f"faults={count}"]
             yield right, f"explain, {workers} workers: {started} threads, {most} at once, where check starts {before}; {told.stdout[:200]}{told.stderr}"
 

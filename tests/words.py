@@ -40,6 +40,7 @@ TABLE = {
         eos_commands: FOLD FoldGiven fold fold_all fold_fault fold_folder fold_folders fold_partitions fold_segment fold_writing read_fold
             verify_folds write_fold
         eos_disk: FoldRefusal first_fold refused_fold
+        eos_explaining: folds_at push_folds
         eos_fold: ByteFold fold
         eos_fold_file: FoldFault FoldField FoldFile FoldHead FoldKept FoldTexts decode_fold encode_fold fold fold_of fold_texts read_fold write_fold
         eos_kept: SegmentFold fold

@@ -1,6 +1,8 @@
 -- Partitions that were read again for the folds of their segments, by their names.
-use Rattle.std.proofs.Common.{◌≡◌, ◌∙◌, ℕ, ◌+◌, List, [], ◌∷◌, ◌++◌, Option, Some, None, Bool, true, false, length, ◌<◌, take, get_or, inl, inr, refl, sym, ap, subst, map}
-use Rattle.std.proofs.lemmas.List.{take_more}
+use Rattle.std.proofs.Common.{◌≡◌, ◌∙◌, ℕ, zero, suc, ◌+◌, List, [], ◌∷◌, ◌++◌, Option, Some, None, Bool, true, false, length, ◌<◌, ◌≤◌, ◌-◌, take, drop, get_or, slice_get, inl, inr, refl, sym, ap, subst, map, arith}
+use Rattle.std.proofs.Math.Seq.{take-append-add}
+use Rattle.std.proofs.lemmas.List.{take_more, take-append-drop, length-take-le}
+use Rattle.std.proofs.lemmas.Option.{slice_get-get_or}
 use Rattle.std.specs.Prelude.{◌⊎◌, if◌then◌else◌}
 use Rattle.eos_base.specs.Members.{Has}
 use Rattle.eos_base.proofs.Membership.{append_cases, append_left}
@@ -17,7 +19,7 @@ use Rattle.eos_story.specs.Names.{name_in}
 use Rattle.eos_story.specs.steps.Same.{IsSameOf}
 use Rattle.eos_story.specs.declared.row.Row.{Row}
 use Rattle.eos_explaining.specs.Folders.{AreRead, HasThem}
-use Rattle.eos_explaining.specs.steps.Again.{IsFoldRead, IsFoldThere, HasFolds, IsCovered, IsCoveredIf, AreCovered, AreKept, ReadsMore, SettledIf}
+use Rattle.eos_explaining.specs.steps.Again.{IsFoldRead, IsFoldThere, HasFolds, IsNamedOrRead, AreNamedOrRead, AreAbsent, IsCovered, IsCoveredIf, AreCovered, AreKept, ReadsMore, SettledIf}
 use Rattle.eos_explaining.proofs.NamedAgain.{named_again, none_again, own_read}
 use Rattle.eos_explaining.proofs.OwnNames.{found_has, found_is, named_is, same_ends_named}
 
@@ -204,17 +206,82 @@ rows_split rows i row r lt is has =
       | inr (inr none) ↦ absurd none
     ]
 
--- one row more: none was read for those before, and none for this one
-pub rows_more : (shapes : List Partition) (first before after : List Folded) (rows : List Row) (i : ℕ) (row : Row) (name : Option PartitionName) (was one more : Bool) → i < length rows → row ≡ get_or rows i row → name ≡ name_in row
-    → SettledIf first before (λ all. AreCovered shapes all (take i rows)) was → SettledIf before after (λ all. IsCoveredIf shapes all name) one → (more ≡ false → (was ≡ false) × (one ≡ false))
-    → SettledIf first after (λ all. AreCovered shapes all (take (i + 1) rows)) more
-rows_more shapes first before after rows i row name was one more lt is named old new parts = λ none.
-    let h = old (parts none).0 in
-    let k = new (parts none).1 in
-    record {
-      same = k.same ∙ h.same;
-      covers = λ r has. elim (rows_split rows i row r lt is has) [
-        | inl earlier ↦ subst (λ (fs : List Folded). IsCoveredIf shapes fs (name_in r)) (sym k.same) (h.covers r earlier)
-        | inr same ↦ subst (λ (x : Row). IsCoveredIf shapes after (name_in x)) same (subst (IsCoveredIf shapes after) named k.covers)
-      ];
-    }
+names_still : (read : List Folded) (names grown : List PartitionName) (name : Option PartitionName) → ((n : PartitionName) → Has names n → Has grown n) → IsNamedOrRead read names name → IsNamedOrRead read grown name
+names_still read names grown None kept is = tt
+names_still read names grown (Some name) kept is = elim is [
+  | inl was ↦ inl was
+  | inr has ↦ inr (kept name has)
+]
+
+-- one row more, whose partition was read or is among these
+pub row_named : (read : List Folded) (names grown : List PartitionName) (named_by : Row → Option PartitionName) (rows : List Row) (i : ℕ) (row : Row) (name : Option PartitionName) → i < length rows → row ≡ get_or rows i row → name ≡ named_by row
+    → ((n : PartitionName) → Has names n → Has grown n) → IsNamedOrRead read grown name → AreNamedOrRead read names named_by (take i rows) → AreNamedOrRead read grown named_by (take (i + 1) rows)
+row_named read names grown named_by rows i row name lt is named kept new old = λ r has. elim (rows_split rows i row r lt is has) [
+  | inl earlier ↦ names_still read names grown (named_by r) kept (old r earlier)
+  | inr same ↦ subst (λ (x : Row). IsNamedOrRead read grown (named_by x)) same (subst (IsNamedOrRead read grown) named new)
+]
+
+-- ---- partitions that several threads read
+
+pub none_come : (known : ℕ → Known) (shapes : List Partition) (read : List Folded) → ReadsMore known shapes read read
+none_come known shapes read = record { kept = λ f has. has; come = λ f has. inl has }
+
+pub folds_come : (known : ℕ → Known) (shapes : List Partition) (name : PartitionName) (xs all : List Folded) (folds : Option Folded) (f : Folded) → AreFoldsNamed known shapes name folds → folds ≡ Some f → all ≡ xs ++ f ∷ [] → ReadsMore known shapes xs all
+folds_come known shapes name xs all folds f named some is = one_more known shapes xs all name f (subst (AreFoldsNamed known shapes name) some named) is
+
+pub folds_none : (known : ℕ → Known) (shapes : List Partition) (name : PartitionName) (folds : Option Folded) → AreFoldsNamed known shapes name folds → folds ≡ None → partition_named name shapes ≡ None
+folds_none known shapes name folds named none = let is = subst (AreFoldsNamed known shapes name) none named in none_read known shapes name is.read is.again is.are
+
+-- the one of a number that is there
+pub there : {X : Type 0} (all : List X) (i : ℕ) → i < length all → (x : X) × (slice_get all i ≡ Some x) × (take (i + 1) all ≡ take i all ++ x ∷ [])
+there [] i lt = absurd (omega (arith, lt))
+there (x ∷ xs) i lt = (get_or (x ∷ xs) i x, slice_get-get_or (x ∷ xs) i x lt, take_more (x ∷ xs) i x lt)
+
+-- those before a number, and so many from there
+pub take_on : {X : Type 0} (all : List X) (first count : ℕ) → first ≤ length all → take (first + count) all ≡ take first all ++ take (first + count - first) (drop first all)
+take_on all first count le =
+    let n : first + count - first ≡ count = omega arith in
+    let whole = take-append-drop first all in
+    let len : length (take first all) ≡ first = length-take-le first all le in
+    ap (λ l. take (first + count) l) (sym whole) ∙ (ap (λ k. take (k + count) (take first all ++ drop first all)) (sym len) ∙ (take-append-add (take first all) (drop first all) count ∙ ap (λ k. take first all ++ take k (drop first all)) (sym n)))
+
+pub has_at : {X : Type 0} (all : List X) (i : ℕ) (x : X) → slice_get all i ≡ Some x → Has all x
+has_at [] i x at = let no : ⊥ = cc at in absurd no
+has_at (y ∷ ys) zero x at = inl cc
+has_at (y ∷ ys) (suc i) x at = inr (has_at ys i x at)
+
+one_absent : (shapes : List Partition) (name other : PartitionName) → partition_named name shapes ≡ None → Has (name ∷ []) other → partition_named other shapes ≡ None
+one_absent shapes name other none (inl same) = subst (λ (n : PartitionName). partition_named n shapes ≡ None) same none
+one_absent shapes name other none (inr has) = absurd has
+
+-- of these lists of names none is there
+pub both_absent : (shapes : List Partition) (first before after : List Folded) (xs ys all : List PartitionName) → all ≡ xs ++ ys → AreAbsent shapes first before xs → AreAbsent shapes before after ys → AreAbsent shapes first after all
+both_absent shapes first before after xs ys all is old new = record {
+  same = new.same ∙ old.same;
+  none = λ name has. elim (append_cases xs ys name (subst (λ (ns : List PartitionName). Has ns name) is has)) [
+    | inl earlier ↦ old.none name earlier
+    | inr later ↦ new.none name later
+  ];
+}
+
+pub none_absent : (shapes : List Partition) (read : List Folded) → AreAbsent shapes read read []
+none_absent shapes read = record { same = refl; none = λ name has. absurd has }
+
+-- the next one isn't there either
+pub absent_more : (shapes : List Partition) (first before after : List Folded) (names : List PartitionName) (i : ℕ) (name : PartitionName) → take (i + 1) names ≡ take i names ++ name ∷ [] → AreAbsent shapes first before (take i names)
+    → (after ≡ before) × (partition_named name shapes ≡ None) → AreAbsent shapes first after (take (i + 1) names)
+absent_more shapes first before after names i name more are one =
+    both_absent shapes first before after (take i names) (name ∷ []) (take (i + 1) names) more are (record { same = one.0; none = λ n has. one_absent shapes name n one.1 has })
+
+-- where none of those that weren't read is there, all that rows name is covered
+covered_if : (shapes : List Partition) (before after : List Folded) (names : List PartitionName) (name : Option PartitionName) → AreAbsent shapes before after names → IsNamedOrRead before names name → IsCoveredIf shapes after name
+covered_if shapes before after names None are is = tt
+covered_if shapes before after names (Some name) are is = elim is [
+  | inl was ↦ subst (λ (fs : List Folded). IsCovered shapes fs name) (sym are.same) (inl was)
+  | inr has ↦ inr (are.none name has)
+]
+
+pub rows_settled : (shapes : List Partition) (before after : List Folded) (names : List PartitionName) (rows : List Row) (more : Bool) → AreNamedOrRead before names name_in rows → (more ≡ false → AreAbsent shapes before after names) → SettledIf before after (λ all. AreCovered shapes all rows) more
+rows_settled shapes before after names rows more named absent = λ none.
+    let are = absent none in
+    record { same = are.same; covers = λ row has. covered_if shapes before after names (name_in row) are (named row has) }

@@ -25,12 +25,15 @@ name_of p = record { topic = p.end.topic; partition = p.end.partition }
 
 -- ---- one partition
 
+pub same_names : (a b : PartitionName) → (is_eq (slice_cmp nat_cmp a.topic b.topic) && int_eq a.partition b.partition) ≡ true → a ≡ b
+same_names a b e =
+    let both = and_parts (is_eq (slice_cmp nat_cmp a.topic b.topic)) (int_eq a.partition b.partition) e in
+    let topic : a.topic ≡ b.topic = bytes_exact a.topic b.topic (is_tied (slice_cmp nat_cmp a.topic b.topic) both.0) in
+    let number : a.partition ≡ b.partition = int_exact a.partition b.partition (is_tied (int_cmp a.partition b.partition) both.1) in
+    λ i. record { topic = topic i; partition = number i }
+
 pub named_is : (name : PartitionName) (p : Partition) → is_named name p ≡ true → name ≡ name_of p
-named_is name p e =
-    let both = and_parts (is_eq (slice_cmp nat_cmp p.end.topic name.topic)) (int_eq p.end.partition name.partition) e in
-    let topic : p.end.topic ≡ name.topic = bytes_exact p.end.topic name.topic (is_tied (slice_cmp nat_cmp p.end.topic name.topic) both.0) in
-    let number : p.end.partition ≡ name.partition = int_exact p.end.partition name.partition (is_tied (int_cmp p.end.partition name.partition) both.1) in
-    λ i. record { topic = sym topic i; partition = sym number i }
+named_is name p e = sym (same_names (name_of p) name e)
 
 both_tied : (a b : Ordering) → a ≡ Equal → b ≡ Equal → (is_eq a && is_eq b) ≡ true
 both_tied a b e f = rw (e, f) refl

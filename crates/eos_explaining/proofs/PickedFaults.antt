@@ -1,12 +1,8 @@
 -- Items of a list, so many from a place on, as they are passed one after the other.
-use Rattle.std.proofs.Common.{◌≡◌, ◌+◌, ◌<◌, ◌≤◌, ℕ, zero, suc, List, [], ◌∷◌, ◌++◌, length, map, take, drop, refl, sym, ap, subst, ◌∙◌, append_assoc, arith, inl, inr, slice_get}
+use Rattle.std.proofs.Common.{◌≡◌, ◌+◌, ◌<◌, ◌≤◌, ℕ, zero, suc, List, [], ◌∷◌, ◌++◌, length, take, drop, refl, sym, ap, ◌∙◌, arith, inl, inr, slice_get}
 use Rattle.std.proofs.lemmas.Bool.{cases_lt}
-use Rattle.std.proofs.lemmas.List.{append-nil, drop-append-le, length-append, length-drop, map-append, take-append-le}
-use Rattle.eos_verdict.specs.declared.verdict.Fault.{Fault}
+use Rattle.std.proofs.lemmas.List.{drop-append-le, length-append, length-drop, take-append-le}
 use Rattle.eos_verdict.specs.declared.verdict.Verdict.{Verdict}
-use Rattle.eos_verdict.specs.declared.verdict.Verdict.TheVariants.{No}
-use Rattle.eos_explaining.specs.declared.kinds.Picked.{Picked}
-use Rattle.eos_explaining.specs.steps.Counting.{IsPicked, IsPickedMore}
 
 -- ---- others of which none is held
 

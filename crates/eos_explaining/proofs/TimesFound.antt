@@ -1,12 +1,15 @@
 -- The times of rows by the partitions that have them.
-use Rattle.std.proofs.Common.{◌≡◌, ◌∙◌, ◌<◌, ◌≤◌, ◌+◌, ℕ, zero, suc, ℤ, List, [], ◌∷◌, ◌++◌, Option, Some, None, Bool, true, false, length, map, take, drop, get_or, slice_get, refl, sym, ap, subst, arith, append-nil, append_assoc}
-use Rattle.std.specs.Prelude.{if◌then◌else◌, option_map}
-use Rattle.std.proofs.lemmas.List.{drop_more, drop_all, take_more, take_all, map-append}
-use Rattle.std.proofs.lemmas.Option.{slice_get-get_or, slice_get_read, slice_get-map}
+use Rattle.std.proofs.Common.{◌≡◌, ◌∙◌, ◌<◌, ◌≤◌, ◌+◌, ℕ, zero, suc, ℤ, List, [], ◌∷◌, ◌++◌, Option, Some, None, Bool, true, false, length, map, take, drop, get_or, slice_get, inl, inr, refl, sym, ap, subst, arith, append-nil, append_assoc}
+use Rattle.std.specs.Prelude.{◌⊎◌, if◌then◌else◌, option_map}
+use Rattle.std.specs.Option.{option_flatten}
+use Rattle.std.proofs.lemmas.List.{drop_more, drop_all}
+use Rattle.std.proofs.lemmas.Option.{slice_get_read, slice_get-map}
+use Rattle.eos_base.specs.Members.{Has}
+use Rattle.eos_base.proofs.Membership.{append_cases}
 use Rattle.eos_base.specs.declared.partition_name.PartitionName.{PartitionName}
 use Rattle.eos_batch.specs.declared.batch.Batch.{Batch}
 use Rattle.eos_evidence.specs.declared.partition.Partition.{Partition}
-use Rattle.eos_evidence.specs.Evidence.{EvidenceParts}
+use Rattle.eos_evidence.specs.Evidence.{EvidenceParts, IsEvidence}
 use Rattle.eos_sought.specs.Partitions.{is_named, partition_named}
 use Rattle.eos_sought.specs.Times.{time_in}
 use Rattle.eos_sought.specs.declared.finding.Find.{Find}
@@ -17,9 +20,11 @@ use Rattle.eos_source_check.specs.Picked.{batch_at, ArePickedNamed, ArePickedOfR
 use Rattle.eos_source_check.specs.declared.picks.Picked.{Picked}
 use Rattle.eos_story.specs.declared.row.Row.{Row}
 use Rattle.eos_story.specs.declared.row.Row.TheVariants as rows
+use Rattle.eos_explaining.specs.Folders.{HasThem}
 use Rattle.eos_explaining.specs.Told.{first_time, record_time, row_time}
-use Rattle.eos_explaining.specs.steps.Times.{name_if, timed_in, first_time_in, record_time_in, row_time_in, at_record, at_first, spot_of, time_at, time_by, is_own, is_timed_in, place_if, spot_in, is_named_if, time_put, first_known, rest_known, times_put, IsTimeBy, IsTimeIf, AreTimesIf, IsTimeMore, AreTimesSoFar, AreRowTimes}
-use Rattle.eos_explaining.proofs.Covered.{none_there}
+use Rattle.eos_explaining.specs.steps.Again.{IsNamedOrRead, AreNamedOrRead}
+use Rattle.eos_explaining.specs.steps.Times.{name_if, timed_in, first_time_in, record_time_in, row_time_in, at_record, at_first, spot_of, time_at, time_by, is_own, is_timed_in, place_if, spot_in, is_named_if, time_put, first_known, rest_known, times_put, known_times, IsKnown, IsTimeBy, IsTimeIf, AreTimesIf, AreKnownIn, AreTimesKnown, TimesPut, TimesMore, AreRowTimes}
+use Rattle.eos_explaining.proofs.Covered.{none_there, there}
 use Rattle.eos_explaining.proofs.OwnNames.{name_of, named_is}
 use Rattle.eos_explaining.proofs.NamedAgain.{none_again, named_again, none_read, one_read, both_read, them_first, them_more, there_named}
 
@@ -225,122 +230,164 @@ known_put p (x ∷ xs) found zero row at named =
     subst (λ (r : Row). time_put p r (first_known found) ≡ Some (row_time_in (Some p) row)) (sym same) (ap (λ (b : Bool). if b then Some (row_time_in (Some p) row) else first_known found) named)
 known_put p (x ∷ xs) found (suc i) row at named = known_put p xs (rest_known found) i row at named
 
--- ---- the next row
+-- ---- which times are known
 
-module _ (known : ℕ → Known) (shape : EvidenceParts) (all : List Row) (number : ℕ) where
-  same_row : (row r : Row) → slice_get all number ≡ Some row → slice_get all number ≡ Some r → row ≡ r
-  same_row row r a b = cc (a, b)
+some_is : (time : Option ℤ) → IsKnown (Some time)
+some_is time = (time, refl)
 
-  pub more_known : (old new : List (Option (Option ℤ))) (time : Option ℤ) → first_known (drop number old) ≡ Some time → new ≡ old → IsTimeMore known shape all number old new time
-  more_known old new time is same = record {
-    more = [];
-    read = none_read known shape.partitions;
-    found = λ before so. subst (AreTimesIf shape (before ++ []) all) (sym same) (all_still shape before [] all old so);
-    is = λ before row so at. still shape before [] row time (at_known shape before all old number row time so at is);
+known_still : (p : Partition) (row : Row) (f : Option (Option ℤ)) → IsKnown f → IsKnown (time_put p row f)
+known_still p row f is = by (is_named_if (timed_in row) p)
+  where
+    by : (b : Bool) → IsKnown (if b then Some (row_time_in (Some p) row) else f)
+    by true = some_is (row_time_in (Some p) row)
+    by false = is
+
+-- those that were known stay so
+known_in_still : (shapes : List Partition) (name : PartitionName) (p : Partition) (all : List Row) (found : List (Option (Option ℤ))) → AreKnownIn shapes name all found → AreKnownIn shapes name all (times_put p all found)
+known_in_still shapes name p [] found are = tt
+known_in_still shapes name p (row ∷ others) found are = (
+  λ names. elim (are.0 names) [
+    | inl none ↦ inl none
+    | inr is ↦ inr (known_still p row (first_known found) is)
+  ],
+  known_in_still shapes name p others (rest_known found) are.1,
+)
+
+known_there : (p : Partition) (row : Row) (was : Option (Option ℤ)) → is_named_if (timed_in row) p ≡ true → IsKnown (time_put p row was)
+known_there p row was is = (row_time_in (Some p) row, ap (λ (b : Bool). if b then Some (row_time_in (Some p) row) else was) is)
+
+-- once the partition of this name was read
+known_read : (shapes : List Partition) (name : PartitionName) (p : Partition) (all : List Row) (found : List (Option (Option ℤ))) → is_named name p ≡ true → AreKnownIn shapes name all (times_put p all found)
+known_read shapes name p [] found named = tt
+known_read shapes name p (row ∷ others) found named = (
+  λ names. inr (known_there p row (first_known found) (ap (λ (o : Option PartitionName). is_named_if o p) names ∙ named)),
+  known_read shapes name p others (rest_known found) named,
+)
+
+known_nowhere : (shapes : List Partition) (name : PartitionName) (all : List Row) (found : List (Option (Option ℤ))) → partition_named name shapes ≡ None → AreKnownIn shapes name all found
+known_nowhere shapes name [] found none = tt
+known_nowhere shapes name (row ∷ others) found none = (λ names. inl none, known_nowhere shapes name others (rest_known found) none)
+
+-- ---- one partition more
+
+module _ (known : ℕ → Known) (shape : EvidenceParts) (all : List Row) where
+  pub known_none : AreTimesKnown known shape all [] []
+  known_none = record { also = []; read = none_read known shape.partitions; so = none_known shape [] all; of = λ name has. absurd has }
+
+  one_or : {X : Type 0} (xs : List X) (x y : X) (R : X → Type 0) → ((z : X) → Has xs z → R z) → R x → Has (xs ++ x ∷ []) y → R y
+  one_or xs x y R before here has = elim (append_cases xs (x ∷ []) y has) [
+    | inl h ↦ before y h
+    | inr (inl same) ↦ subst R same here
+    | inr (inr h) ↦ absurd h
+  ]
+
+  nowhere_more : (names : List PartitionName) (name : PartitionName) (old : List (Option (Option ℤ))) → partition_named name shape.partitions ≡ None → AreTimesKnown known shape all names old → AreTimesKnown known shape all (names ++ name ∷ []) old
+  nowhere_more names name old none are = record {
+    also = are.also;
+    read = are.read;
+    so = are.so;
+    of = λ n has. one_or names name n (λ m. AreKnownIn shape.partitions m all old) are.of (known_nowhere shape.partitions name all old none) has;
   }
 
-  pub more_untimed : (old new : List (Option (Option ℤ))) (row : Row) → slice_get all number ≡ Some row → timed_in row ≡ None → new ≡ old → IsTimeMore known shape all number old new None
-  more_untimed old new row here none same = record {
-    more = [];
-    read = none_read known shape.partitions;
-    found = λ before so. subst (AreTimesIf shape (before ++ []) all) (sym same) (all_still shape before [] all old so);
-    is = λ before r so at e is_shape is_e spec has. sym (untimed e.partitions r (subst (λ (x : Row). timed_in x ≡ None) (same_row row r here at) none));
+  read_more : (names : List PartitionName) (name : PartitionName) (p : Partition) (old : List (Option (Option ℤ))) → IsNamedAgain known 0 shape.partitions name (Some p) → AreTimesKnown known shape all names old
+      → AreTimesKnown known shape all (names ++ name ∷ []) (times_put p all old)
+  read_more names name p old again are = record {
+    also = are.also ++ p ∷ [];
+    read = both_read known shape.partitions are.also (p ∷ []) are.read (one_read known shape.partitions name p again);
+    so = put_all shape are.also p all old are.so;
+    of = λ n has. one_or names name n (λ m. AreKnownIn shape.partitions m all (times_put p all old)) (λ m h. known_in_still shape.partitions m p all old (are.of m h))
+        (known_read shape.partitions name p all old (named_again known 0 shape.partitions name p again)) has;
   }
 
-  more_nowhere : (old new : List (Option (Option ℤ))) (row : Row) (name : PartitionName) → slice_get all number ≡ Some row → timed_in row ≡ Some name → IsNamedAgain known 0 shape.partitions name None → new ≡ old
-      → IsTimeMore known shape all number old new None
-  more_nowhere old new row name here names again same = record {
-    more = [];
-    read = none_read known shape.partitions;
-    found = λ before so. subst (AreTimesIf shape (before ++ []) all) (sym same) (all_still shape before [] all old so);
-    is = λ before r so at e is_shape is_e spec has.
-        let named : timed_in r ≡ Some name = subst (λ (x : Row). timed_in x ≡ Some name) (same_row row r here at) names in
-        let none : partition_named name e.partitions ≡ None = none_there shape e name is_shape is_e spec (none_again known 0 shape.partitions name again) in
-        sym (looked_up e.partitions r name named ∙ (ap (λ (o : Option Partition). row_time_in o r) none ∙ nowhere r));
-  }
-
-  more_read : (old new : List (Option (Option ℤ))) (row : Row) (name : PartitionName) (p : Partition) (time : Option ℤ) → slice_get all number ≡ Some row → timed_in row ≡ Some name
-      → IsNamedAgain known 0 shape.partitions name (Some p) → new ≡ times_put p all old → time ≡ row_time_in (Some p) row → IsTimeMore known shape all number old new time
-  more_read old new row name p time here names again put is = record {
-    more = p ∷ [];
-    read = one_read known shape.partitions name p again;
-    found = λ before so. subst (AreTimesIf shape (before ++ p ∷ []) all) (sym put) (put_all shape before p all old so);
-    is = λ before r so at. subst (λ (x : Row). IsTimeBy shape (before ++ p ∷ []) x time) (same_row row r here at)
-        (subst (IsTimeBy shape (before ++ p ∷ []) row) (sym is) (by_read shape before p row name names (named_again known 0 shape.partitions name p again)));
-  }
-
-  -- by what was picked in the partition of its name
-
-  pub more_unpicked : (old : List (Option (Option ℤ))) (row : Row) (name : PartitionName) (places : List (Option Placed)) → slice_get all number ≡ Some row → timed_in row ≡ Some name → ArePickedNamed known shape.partitions name places None
-      → IsTimeMore known shape all number old old None
-  more_unpicked old row name places here names picked = by picked.read picked.again picked.are
+  pub more_unpicked : (names : List PartitionName) (name : PartitionName) (picked : Option Picked) (old : List (Option (Option ℤ))) → ArePickedNamed known shape.partitions name (map (spot_in name) all) picked → picked ≡ None
+      → AreTimesKnown known shape all names old → AreTimesKnown known shape all (names ++ name ∷ []) old
+  more_unpicked names name picked old of none are = by of.read of.again (subst (ArePickedOfRead of.read (map (spot_in name) all)) none of.are)
     where
-      by : (read : Option Partition) → IsNamedAgain known 0 shape.partitions name read → ArePickedOfRead read places None → IsTimeMore known shape all number old old None
-      by None again are = more_nowhere old old row name here names again refl
-      by (Some p) again are = absurd are
+      by : (read : Option Partition) → IsNamedAgain known 0 shape.partitions name read → ArePickedOfRead read (map (spot_in name) all) None → AreTimesKnown known shape all (names ++ name ∷ []) old
+      by None again is = nowhere_more names name old (none_again known 0 shape.partitions name again) are
+      by (Some p) again is = absurd is
 
-  pub more_picked : (old new : List (Option (Option ℤ))) (row : Row) (name : PartitionName) (picked : Picked) (known_now : Option (Option ℤ)) (time : Option ℤ) → slice_get all number ≡ Some row → timed_in row ≡ Some name
-      → ArePickedNamed known shape.partitions name (map (spot_in name) all) (Some picked)
-      → ((p : Partition) → is_named name p ≡ true → ArePickedOf p (map (spot_in name) all) picked → new ≡ times_put p all old) → known_now ≡ first_known (drop number new) → known_now ≡ Some time → IsTimeMore known shape all number old new time
-  more_picked old new row name picked known_now time here names of put now is = by of.read of.again of.are
+  pub more_picked : (names : List PartitionName) (name : PartitionName) (all_picked : Option Picked) (picked : Picked) (old new : List (Option (Option ℤ))) → ArePickedNamed known shape.partitions name (map (spot_in name) all) all_picked → all_picked ≡ Some picked
+      → ((p : Partition) → is_named name p ≡ true → ArePickedOf p (map (spot_in name) all) picked → new ≡ times_put p all old) → AreTimesKnown known shape all names old → AreTimesKnown known shape all (names ++ name ∷ []) new
+  more_picked names name all_picked picked old new of some put are = by of.read of.again (subst (ArePickedOfRead of.read (map (spot_in name) all)) some of.are)
     where
-      by : (read : Option Partition) → IsNamedAgain known 0 shape.partitions name read → ArePickedOfRead read (map (spot_in name) all) (Some picked) → IsTimeMore known shape all number old new time
-      by None again are = absurd are
-      by (Some p) again are =
-          let named = named_again known 0 shape.partitions name p again in
-          let all_put : new ≡ times_put p all old = put p named are in
-          let in_it : is_named_if (timed_in row) p ≡ true = ap (λ (o : Option PartitionName). is_named_if o p) names ∙ named in
-          let there : first_known (drop number new) ≡ Some (row_time_in (Some p) row) = ap (λ (l : List (Option (Option ℤ))). first_known (drop number l)) all_put ∙ known_put p all old number row here in_it in
-          let same : Some time ≡ Some (row_time_in (Some p) row) = sym is ∙ (now ∙ there) in
-          more_read old new row name p time here names again all_put cc
+      by : (read : Option Partition) → IsNamedAgain known 0 shape.partitions name read → ArePickedOfRead read (map (spot_in name) all) (Some picked) → AreTimesKnown known shape all (names ++ name ∷ []) new
+      by None again is = absurd is
+      by (Some p) again is =
+          subst (AreTimesKnown known shape all (names ++ name ∷ [])) (sym (put p (named_again known 0 shape.partitions name p again) is)) (read_more names name p old again are)
 
-  pub more_lost : (old new : List (Option (Option ℤ))) (row : Row) (name : PartitionName) (picked : Picked) (known_now : Option (Option ℤ)) → slice_get all number ≡ Some row → timed_in row ≡ Some name
-      → ArePickedNamed known shape.partitions name (map (spot_in name) all) (Some picked)
-      → ((p : Partition) → is_named name p ≡ true → ArePickedOf p (map (spot_in name) all) picked → new ≡ times_put p all old) → known_now ≡ first_known (drop number new) → known_now ≡ None → ⊥
-  more_lost old new row name picked known_now here names of put now none = by of.read of.again of.are
-    where
-      by : (read : Option Partition) → IsNamedAgain known 0 shape.partitions name read → ArePickedOfRead read (map (spot_in name) all) (Some picked) → ⊥
-      by None again are = are
-      by (Some p) again are =
-          let named = named_again known 0 shape.partitions name p again in
-          let in_it : is_named_if (timed_in row) p ≡ true = ap (λ (o : Option PartitionName). is_named_if o p) names ∙ named in
-          let there : first_known (drop number new) ≡ Some (row_time_in (Some p) row) = ap (λ (l : List (Option (Option ℤ))). first_known (drop number l)) (put p named are) ∙ known_put p all old number row here in_it in
-          some_none (row_time_in (Some p) row) (sym there ∙ (sym now ∙ none))
+  -- ---- those of further names
 
--- ---- one after the other
+  pub names_none : (found : List (Option (Option ℤ))) → TimesMore known shape all [] found found
+  names_none found = λ before are. subst (λ (ns : List PartitionName). AreTimesKnown known shape all ns found) (sym (append-nil before)) are
 
-pub times_none : (known : ℕ → Known) (shape : EvidenceParts) (all : List Row) (times : List (Option ℤ)) (found : List (Option (Option ℤ))) → times ≡ [] → found ≡ [] → AreTimesSoFar known shape all 0 times found
-times_none known shape all times found no_times none = record {
-  also = [];
-  read = none_read known shape.partitions;
-  are = λ e is_shape is_e spec has. no_times;
-  so = subst (AreTimesIf shape [] all) (sym none) (none_known shape [] all);
+  pub names_more : (names : List PartitionName) (i : ℕ) (name : PartitionName) (first old new : List (Option (Option ℤ))) (picked : Option Picked) → take (i + 1) names ≡ take i names ++ name ∷ [] → TimesMore known shape all (take i names) first old
+      → TimesPut name all picked old new → ArePickedNamed known shape.partitions name (map (spot_in name) all) picked → TimesMore known shape all (take (i + 1) names) first new
+  names_more names i name first old new picked more are put of = λ before so.
+      subst (λ (ns : List PartitionName). AreTimesKnown known shape all ns new) (append_assoc before (take i names) (name ∷ []) ∙ ap (λ (ns : List PartitionName). before ++ ns) (sym more)) (put known shape (before ++ take i names) of (are before so))
+
+-- ---- the times of all
+
+-- a row whose time isn't known has none
+time_if : (shape e : EvidenceParts) (also : List Partition) (row : Row) (f : Option (Option ℤ)) (o : Option PartitionName) → timed_in row ≡ o → IsTimeIf shape also row f
+    → ((name : PartitionName) → timed_in row ≡ Some name → (partition_named name shape.partitions ≡ None) ⊎ IsKnown f) → IsEvidence shape → IsEvidence e → e.spec ≡ shape.spec → HasThem e also → option_flatten f ≡ row_time e.partitions row
+time_if shape e also row (Some time) o names so are is_shape is_e spec has = so e is_shape is_e spec has
+time_if shape e also row None None names so are is_shape is_e spec has = sym (untimed e.partitions row names)
+time_if shape e also row None (Some name) names so are is_shape is_e spec has = elim (are name names) [
+  | inl none ↦ sym (looked_up e.partitions row name names ∙ (ap (λ (p : Option Partition). row_time_in p row) (none_there shape e name is_shape is_e spec none) ∙ nowhere row))
+  | inr is ↦ absurd (some_none is.0 (sym is.1))
+]
+
+first_if : (shape : EvidenceParts) (also : List Partition) (row : Row) (others : List Row) (found : List (Option (Option ℤ))) → AreTimesIf shape also (row ∷ others) found → IsTimeIf shape also row (first_known found)
+first_if shape also row others [] so = tt
+first_if shape also row others (f ∷ fs) so = so.0
+
+rest_if : (shape : EvidenceParts) (also : List Partition) (row : Row) (others : List Row) (found : List (Option (Option ℤ))) → AreTimesIf shape also (row ∷ others) found → AreTimesIf shape also others (rest_known found)
+rest_if shape also row others [] so = none_known shape also others
+rest_if shape also row others (f ∷ fs) so = so.1
+
+all_times : (shape e : EvidenceParts) (also : List Partition) (rows : List Row) (found : List (Option (Option ℤ))) → AreTimesIf shape also rows found
+    → ((row : Row) (name : PartitionName) → Has rows row → timed_in row ≡ Some name → AreKnownIn shape.partitions name rows found) → IsEvidence shape → IsEvidence e → e.spec ≡ shape.spec → HasThem e also
+    → known_times rows found ≡ map (row_time e.partitions) rows
+all_times shape e also [] found so are is_shape is_e spec has = refl
+all_times shape e also (row ∷ others) found so are is_shape is_e spec has =
+    let here : option_flatten (first_known found) ≡ row_time e.partitions row =
+    time_if shape e also row (first_known found) (timed_in row) refl (first_if shape also row others found so) (λ name names. (are row name (inl refl) names).0 names) is_shape is_e spec has in
+    let rest = all_times shape e also others (rest_known found) (rest_if shape also row others found so) (λ r name h names. (are r name (inr h) names).1) is_shape is_e spec has in
+    λ k. here k ∷ rest k
+
+-- the names of rows, none of which was read
+named_one : (names : List PartitionName) (row : Row) (name : PartitionName) → IsNamedOrRead [] names (timed_in row) → timed_in row ≡ Some name → Has names name
+named_one names row name is named = by (timed_in row) is named
+  where
+    by : (o : Option PartitionName) → IsNamedOrRead [] names o → o ≡ Some name → Has names name
+    by None is e = absurd (some_none name (sym e))
+    by (Some n) is e =
+        let same : n ≡ name = cc in
+        elim is [
+          | inl was ↦ absurd (some_none (was.1 [] tt).partition (sym (was.1 [] tt).named))
+          | inr has ↦ subst (Has names) same has
+        ]
+
+pub times_are : (known : ℕ → Known) (shape : EvidenceParts) (all : List Row) (names : List PartitionName) (found : List (Option (Option ℤ))) (times : List (Option ℤ)) → AreNamedOrRead [] names timed_in all → AreTimesKnown known shape all names found
+    → times ≡ known_times all found → AreRowTimes known shape all times
+times_are known shape all names found times named are is = record {
+  also = are.also;
+  read = are.read;
+  are = λ e is_shape is_e spec has.
+      is ∙ all_times shape e are.also all found are.so (λ row name h names_it. are.of name (named_one names row name (named row h) names_it)) is_shape is_e spec has;
 }
 
--- the row of a number that is there
-row_there : (all : List Row) (i : ℕ) → i < length all → (row : Row) × (slice_get all i ≡ Some row) × (take (i + 1) all ≡ take i all ++ row ∷ [])
-row_there [] i lt = absurd (omega (arith, lt))
-row_there (x ∷ xs) i lt = (get_or (x ∷ xs) i x, slice_get-get_or (x ∷ xs) i x lt, take_more (x ∷ xs) i x lt)
+-- the list of times, made one by one
+pub times_more : (all : List Row) (found : List (Option (Option ℤ))) (now grown whole : List (Option ℤ)) (i : ℕ) (one : Option (Option ℤ)) → i < length all → one ≡ first_known (drop i found) → grown ≡ now ++ option_flatten one ∷ []
+    → now ++ known_times (drop i all) (drop i found) ≡ whole → grown ++ known_times (drop (i + 1) all) (drop (i + 1) found) ≡ whole
+times_more all found now grown whole i one lt is more so =
+    let r = there all i lt in
+    let left = known_times (drop (i + 1) all) (drop (i + 1) found) in
+    let next : drop i all ≡ get_or all i r.0 ∷ drop (i + 1) all = drop_more all i r.0 lt in
+    let here : known_times (drop i all) (drop i found) ≡ option_flatten one ∷ left =
+    ap (λ (rs : List Row). known_times rs (drop i found)) next ∙ (λ k. option_flatten (sym is k) ∷ known_times (drop (i + 1) all) (rest_is found i k)) in
+    ap (λ l. l ++ left) more ∙ (append_assoc now (option_flatten one ∷ []) left ∙ (sym (ap (λ l. now ++ l) here) ∙ so))
 
-pub times_more : (known : ℕ → Known) (shape : EvidenceParts) (all : List Row) (i : ℕ) (times grown : List (Option ℤ)) (old new : List (Option (Option ℤ))) (time : Option ℤ) → i < length all
-    → AreTimesSoFar known shape all i times old → IsTimeMore known shape all i old new time → grown ≡ times ++ time ∷ [] → AreTimesSoFar known shape all (i + 1) grown new
-times_more known shape all i times grown old new time lt s m more =
-    let r = row_there all i lt in
-    let row = r.0 in
-    record {
-      also = s.also ++ m.more;
-      read = both_read known shape.partitions s.also m.more s.read m.read;
-      are = λ e is_shape is_e spec has.
-          let before : times ≡ map (row_time e.partitions) (take i all) = s.are e is_shape is_e spec (them_first e s.also m.more has) in
-          let one : time ≡ row_time e.partitions row = m.is s.also row s.so r.1 e is_shape is_e spec has in
-          let both : map (row_time e.partitions) (take i all ++ row ∷ []) ≡ map (row_time e.partitions) (take i all) ++ row_time e.partitions row ∷ [] = map-append (row_time e.partitions) (take i all) (row ∷ []) in
-          more ∙ ((λ k. before k ++ one k ∷ []) ∙ (sym both ∙ ap (map (row_time e.partitions)) (sym r.2)));
-      so = m.found s.also s.so;
-    }
-
-pub times_done : (known : ℕ → Known) (shape : EvidenceParts) (all : List Row) (i : ℕ) (times : List (Option ℤ)) (found : List (Option (Option ℤ))) → length all ≤ i → AreTimesSoFar known shape all i times found → AreRowTimes known shape all times
-times_done known shape all i times found done s = record {
-  also = s.also;
-  read = s.read;
-  are = λ e is_shape is_e spec has. s.are e is_shape is_e spec has ∙ ap (map (row_time e.partitions)) (take_all i all done);
-}
+pub times_done : (all : List Row) (found : List (Option (Option ℤ))) (now whole : List (Option ℤ)) (i : ℕ) → length all ≤ i → now ++ known_times (drop i all) (drop i found) ≡ whole → now ≡ whole
+times_done all found now whole i done so = sym (append-nil now) ∙ (sym (ap (λ (rs : List Row). now ++ known_times rs (drop i found)) (drop_all i all done)) ∙ so)

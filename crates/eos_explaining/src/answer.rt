@@ -123,8 +123,8 @@ fn settled(answer: Answer, judged: Judged) -> Answer
 }
 
 /// The story of the fault of this number, which alone is held.
-fn told_of_number<S: Source>(
-    alloc: Global,
+fn told_of_number<S: Source, R: Threads + Sync>(
+    crew: &Crew<'_, R>,
     pieces: &Pieces<'_, S>,
     judged: Judged,
     asked: &Asked<'_>,
@@ -136,16 +136,16 @@ fn told_of_number<S: Source>(
     ensures told { IfOk result (λ text. HoldsByNamed (known_by (S.said pieces.now.source.now) (S.is_log pieces.now.source.now)) pieces.now.shape.now judged (λ e. IsTheStory asked.now.folder.now e asked.now.number (string_bytes text))) }
     ensures unread { IfErr result (IsUnread (S.outcomes pieces.now.source.now) (pieces_of pieces.now.shape.now)) }
 {
-    let mut read = Vec::new(alloc);
+    let mut read = Vec::new(crew.alloc);
     let told = found.told.as_slice();
-    let parts = seen_logs(alloc, pieces, parts_of(judged), told)?;
+    let parts = seen_logs(crew.alloc, pieces, parts_of(judged), told)?;
     let about = About {
         folder: asked.folder,
         counts: found.line.as_str(),
         notes: found.notes.as_slice(),
         logs: parts.as_slice(),
     };
-    let story = story_of(alloc, pieces, &mut read, &about, &told[0])?;
+    let story = story_of(crew, pieces, &mut read, &about, &told[0])?;
     Ok(story)
 }
 
@@ -169,7 +169,7 @@ fn told_no<S: Source, R: Threads + Sync>(
     if number == 0 || number > count {
         return Ok(Answer::Fewer(count));
     }
-    let story = told_of_number(crew.alloc, pieces, judged, asked, &found)?;
+    let story = told_of_number(crew, pieces, judged, asked, &found)?;
     Ok(Answer::Story(story))
 }
 
@@ -195,7 +195,7 @@ fn answer_judged<S: Source, R: Threads + Sync>(
 /// The story of a fault of the evidence, of this number in the list of all, from 1 on; or the line of a yes, or how many faults
 /// there are. The verdict, the list and the records of the story are worked out of what is kept of its logs, as by `check`, and of the list
 /// only that fault is held. Only the partitions that the story names are read again: for the folds of their segments, by which its rows are
-/// found, and one after the other for the times of these; where it looks for claims, those too of whose topics no application is.
+/// found, and once more for the times of these; where it looks for claims, those too of whose topics no application is.
 #[tactic(auto, using(crate::proofs::Answered::of_judged, crate::proofs::Untold::unjudged))]
 pub(crate) fn explain<S: Source, R: Threads + Sync>(
     alloc: Global,

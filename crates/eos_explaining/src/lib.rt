@@ -10,6 +10,7 @@ mod folder;
 mod headers;
 mod kinds;
 mod lines;
+mod named;
 mod paths;
 mod records;
 mod rows;

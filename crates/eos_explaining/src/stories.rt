@@ -40,8 +40,8 @@ pub struct First {
 }
 
 /// The stories of the faults that these verdicts name.
-fn told_each<S: Source>(
-    alloc: Global,
+fn told_each<S: Source, R: Threads + Sync>(
+    crew: &Crew<'_, R>,
     pieces: &Pieces<'_, S>,
     read: &mut Vec<Folded>,
     about: &About<'_>,
@@ -52,17 +52,17 @@ fn told_each<S: Source>(
     ensures told { IfOk result (λ texts. AreToldBy (known_by (S.said pieces.now.source.now) (S.is_log pieces.now.source.now)) pieces.now.shape.now read.new.items about.now told.now (map string_bytes texts.items)) }
     ensures unread { IfErr result (IsUnread (S.outcomes pieces.now.source.now) (pieces_of pieces.now.shape.now)) }
 {
-    let mut texts = Vec::new(alloc);
+    let mut texts = Vec::new(crew.alloc);
     for i in 0..told.len() {
-        let text = story_of(alloc, pieces, read, about, &told[i])?;
+        let text = story_of(crew, pieces, read, about, &told[i])?;
         texts.push(text)?;
     }
     Ok(texts)
 }
 
 /// The stories of the faults that are held of those that were found.
-fn of_findings<S: Source>(
-    alloc: Global,
+fn of_findings<S: Source, R: Threads + Sync>(
+    crew: &Crew<'_, R>,
     pieces: &Pieces<'_, S>,
     judged: Judged,
     folder: &str,
@@ -73,16 +73,16 @@ fn of_findings<S: Source>(
         → HoldsByNamed (known_by (S.said pieces.now.source.now) (S.is_log pieces.now.source.now)) pieces.now.shape.now judged (λ e. AreFirstStories folder.now e most (map string_bytes texts.items))) }
     ensures unread { IfErr result (IsUnread (S.outcomes pieces.now.source.now) (pieces_of pieces.now.shape.now)) }
 {
-    let mut read = Vec::new(alloc);
+    let mut read = Vec::new(crew.alloc);
     let told = found.told.as_slice();
-    let parts = seen_logs(alloc, pieces, parts_of(judged), told)?;
+    let parts = seen_logs(crew.alloc, pieces, parts_of(judged), told)?;
     let about = About {
         folder,
         counts: found.line.as_str(),
         notes: found.notes.as_slice(),
         logs: parts.as_slice(),
     };
-    let texts = told_each(alloc, pieces, &mut read, &about, told)?;
+    let texts = told_each(crew, pieces, &mut read, &about, told)?;
     Ok(texts)
 }
 
@@ -99,7 +99,7 @@ fn of_judged<S: Source, R: Threads + Sync>(
 {
     let pick = Pick { from: 0, most };
     let found = found_in(crew, pieces, &judged, pick)?;
-    let texts = of_findings(crew.alloc, pieces, judged, folder, &found)?;
+    let texts = of_findings(crew, pieces, judged, folder, &found)?;
     Ok(texts)
 }
 

@@ -20,6 +20,7 @@ use crate::{Story, story_text};
 use eos_batch::Header;
 use eos_check::{Fault, Verdict};
 use eos_claims::Place;
+use eos_faults::Crew;
 use eos_kept::Part;
 use eos_notes::Note;
 use eos_sought::Folded;
@@ -28,6 +29,7 @@ use eos_source_check::{Pieces, Unlisted};
 use eos_story::{Row, Scene, place_of, rows_of};
 use eos_text::{Page, page_of};
 use std::alloc::{AllocError, Global};
+use std::thread::Threads;
 
 /// The catalogue's page of a kind of fault.
 fn page_for(alloc: Global, fault: &Fault) -> Result<Option<&'static Page>, AllocError>
@@ -59,8 +61,8 @@ struct Of<'a> {
 }
 
 /// Reads the partitions that a fault and these rows name, but for those that were read. Whether one was read now.
-fn read_named<S: Source>(
-    alloc: Global,
+fn read_named<S: Source, R: Threads + Sync>(
+    crew: &Crew<'_, R>,
     pieces: &Pieces<'_, S>,
     read: &mut Vec<Folded>,
     place: Option<&Place>,
@@ -70,14 +72,14 @@ fn read_named<S: Source>(
     ensures covered { IfOk result (SettledIf read.old.items read.new.items (λ all. AreNamedCovered pieces.now.shape.now.partitions all (option_copied place.entry) rows.now)) }
     ensures unread { IfErr result (IsUnread (S.outcomes pieces.now.source.now) (length (segments_of pieces.now.shape.now.partitions))) }
 {
-    let first = read_own(alloc, pieces, read, place)?;
-    let more = read_rows(alloc, pieces, read, rows)?;
+    let first = read_own(crew.alloc, pieces, read, place)?;
+    let more = read_rows(crew, pieces, read, rows)?;
     Ok(first || more)
 }
 
 /// The story by the partitions that were read, unless it names others; these are read then.
-fn told_once<S: Source>(
-    alloc: Global,
+fn told_once<S: Source, R: Threads + Sync>(
+    crew: &Crew<'_, R>,
     pieces: &Pieces<'_, S>,
     read: &mut Vec<Folded>,
     about: &About<'_>,
@@ -91,7 +93,7 @@ fn told_once<S: Source>(
     ensures unread { IfErr result (IsUnread (S.outcomes pieces.now.source.now) (length (segments_of pieces.now.shape.now.partitions))) }
 {
     let scene = Scene {
-        alloc,
+        alloc: crew.alloc,
         apps: pieces.shape.spec().apps().as_slice(),
         partitions: read.as_slice(),
         logs: about.logs,
@@ -99,11 +101,11 @@ fn told_once<S: Source>(
         headers: of.headers,
     };
     let rows = rows_of(&scene, of.fault)?;
-    if read_named(alloc, pieces, read, of.place.as_ref(), rows.as_slice())? {
+    if read_named(crew, pieces, read, of.place.as_ref(), rows.as_slice())? {
         return Ok(None);
     }
-    let times = row_times(alloc, pieces, rows.as_slice())?;
-    let page = page_for(alloc, of.fault)?;
+    let times = row_times(crew, pieces, rows.as_slice())?;
+    let page = page_for(crew.alloc, of.fault)?;
     let story = Story {
         folder: about.folder,
         verdict: of.verdict,
@@ -113,13 +115,13 @@ fn told_once<S: Source>(
         counts: about.counts,
         notes: about.notes,
     };
-    let text = story_text(alloc, &story, times.as_slice())?;
+    let text = story_text(crew.alloc, &story, times.as_slice())?;
     Ok(Some(text))
 }
 
 /// The story of the fault that this verdict names.
-fn told_of<S: Source>(
-    alloc: Global,
+fn told_of<S: Source, R: Threads + Sync>(
+    crew: &Crew<'_, R>,
     pieces: &Pieces<'_, S>,
     read: &mut Vec<Folded>,
     about: &About<'_>,
@@ -134,11 +136,11 @@ fn told_of<S: Source>(
 {
     let rounds = pieces.shape.partitions().len();
     for _ in 0..rounds {
-        if let Some(text) = told_once(alloc, pieces, read, about, of)? {
+        if let Some(text) = told_once(crew, pieces, read, about, of)? {
             return Ok(text);
         }
     }
-    match told_once(alloc, pieces, read, about, of)? {
+    match told_once(crew, pieces, read, about, of)? {
         Some(text) => Ok(text),
         // Each time a further partition was read, so that none is left by now.
         None => Err(Unlisted::OutOfMemory),
@@ -149,8 +151,8 @@ fn told_of<S: Source>(
 ///
 /// # Errors
 /// A piece isn't there any more, is a fold, or can't be read; or want of memory.
-pub(crate) fn story_of<S: Source>(
-    alloc: Global,
+pub(crate) fn story_of<S: Source, R: Threads + Sync>(
+    crew: &Crew<'_, R>,
     pieces: &Pieces<'_, S>,
     read: &mut Vec<Folded>,
     about: &About<'_>,
@@ -164,15 +166,15 @@ pub(crate) fn story_of<S: Source>(
     match verdict {
         Verdict::Yes(_) => unreachable!(),
         Verdict::No(fault) => {
-            let place = place_of(alloc, fault)?;
-            let headers = own_headers(alloc, pieces, read, place.as_ref())?;
+            let place = place_of(crew.alloc, fault)?;
+            let headers = own_headers(crew.alloc, pieces, read, place.as_ref())?;
             let of = Of {
                 verdict,
                 fault,
                 place: &place,
                 headers: headers.as_slice(),
             };
-            let text = told_of(alloc, pieces, read, about, of)?;
+            let text = told_of(crew, pieces, read, about, of)?;
             Ok(text)
         }
     }

@@ -1,7 +1,7 @@
-//! The times of rows. The partitions that have them are read once more, one after the other, and no more of one is held than the batches of
-//! these rows.
+//! The times of rows. The partitions that have them are read once more, by threads, and no more of one is held than the batches of these
+//! rows.
 
-ghost use Rattle.std.specs.Prelude.{◌≡◌, ◌<◌, Some, true, drop, length, map, IfOk, IfErr};
+ghost use Rattle.std.specs.Prelude.{◌≡◌, true, drop, length, map, IfOk, IfErr, OnOk};
 ghost use Rattle.std.specs.Option.{option_copied};
 ghost use Rattle.eos_evidence.specs.Evidence.{segments_of};
 ghost use Rattle.eos_evidence.specs.declared.partition.Partition.{Partition};
@@ -9,15 +9,19 @@ ghost use Rattle.eos_sought.specs.Partitions.{is_named};
 ghost use Rattle.eos_source.specs.Said.{known_by};
 ghost use Rattle.eos_source_check.specs.Picked.{batch_at, ArePickedOf};
 ghost use Rattle.eos_source_check.specs.Refusals.{IsUnread};
-ghost use Rattle.eos_explaining.specs.steps.Times.{name_if, timed_in, spot_of, time_by, is_timed_in, spot_in, time_put, times_put, first_known, AreRowTimes, IsTimeMore};
+ghost use Rattle.eos_explaining.specs.steps.Times.{name_if, timed_in, spot_of, time_by, is_timed_in, spot_in, time_put, times_put, first_known, known_times, ArePickedAt, AreRowTimes, TimesMore, TimesPut};
 
+use crate::named::names_timed;
 use eos_base::PartitionName;
 use eos_batch::Batch;
+use eos_faults::Crew;
 use eos_sought::{Placed, time_of};
 use eos_source::Source;
 use eos_source_check::{Picked, Pieces, Unlisted, batches_again};
 use eos_story::Row;
 use std::alloc::{AllocError, Global};
+use std::thread;
+use std::thread::Threads;
 
 // ---- in a partition
 
@@ -64,7 +68,7 @@ fn name_if(name: &PartitionName, spot: Option<Placed>) -> Option<&PartitionName>
 }
 
 /// The partition that has the time of a row, where it has one.
-fn timed_in(row: &Row) -> Option<&PartitionName>
+pub(crate) fn timed_in(row: &Row) -> Option<&PartitionName>
     ensures { option_copied result ≡ timed_in row.now }
 {
     match row {
@@ -166,72 +170,110 @@ fn times_put(
 
 // ---- all
 
-/// The time of the row of this number. The batches of rows in the partition that has it are read, and their times are known from then on.
-fn read_time<S: Source>(
+/// The batches of these rows in the partition of this number among those named, which is read for them.
+fn picked_at<S: Source>(
     alloc: Global,
     pieces: &Pieces<'_, S>,
     rows: &[Row],
-    found: &mut Vec<Option<Option<i64>>>,
+    names: &[PartitionName],
     number: usize,
-) -> Result<Option<i64>, Unlisted<S::Fault>>
-    requires { number < length rows.now }
-    ensures time { IfOk result (IsTimeMore (known_by (S.said pieces.now.source.now) (S.is_log pieces.now.source.now)) pieces.now.shape.now rows.now number found.old.items found.new.items) }
+) -> Result<Option<Picked>, Unlisted<S::Fault>>
+    ensures picked { IfOk result (ArePickedAt (known_by (S.said pieces.now.source.now) (S.is_log pieces.now.source.now)) pieces.now.shape.now.partitions names.now number rows.now) }
     ensures unread { IfErr result (IsUnread (S.outcomes pieces.now.source.now) (length (segments_of pieces.now.shape.now.partitions))) }
 {
-    let Some(name) = timed_in(&rows[number]) else {
-        return Ok(None);
-    };
-    let places = spots_in(alloc, name, rows)?;
-    match batches_again(alloc, pieces.source, pieces.shape, name, places.as_slice())? {
+    match names.get(number) {
         None => Ok(None),
+        Some(name) => {
+            let places = spots_in(alloc, name, rows)?;
+            batches_again(alloc, pieces.source, pieces.shape, name, places.as_slice())
+        }
+    }
+}
+
+/// What is known of the times of these rows, once the partition of this name was read.
+fn put_picked(
+    alloc: Global,
+    name: &PartitionName,
+    rows: &[Row],
+    found: &mut Vec<Option<Option<i64>>>,
+    picked: Option<Picked>,
+) -> Result<(), AllocError>
+    ensures { OnOk result (TimesPut name.now rows.now picked found.old.items found.new.items) }
+{
+    match picked {
+        None => Ok(()),
         Some(picked) => {
             *found = times_put(alloc, name, rows, found.as_slice(), &picked)?;
-            match known_at(found.as_slice(), number) {
-                None => Ok(None),
-                Some(time) => Ok(time),
-            }
+            Ok(())
         }
     }
 }
 
-/// The same, unless it is known.
-fn next_time<S: Source>(
-    alloc: Global,
+/// Reads the partitions of these names for the times of the rows in them. Each may have a thread of its own.
+fn time_each<S: Source, R: Threads + Sync>(
+    crew: &Crew<'_, R>,
     pieces: &Pieces<'_, S>,
     rows: &[Row],
     found: &mut Vec<Option<Option<i64>>>,
-    number: usize,
-) -> Result<Option<i64>, Unlisted<S::Fault>>
-    requires { number < length rows.now }
-    ensures time { IfOk result (IsTimeMore (known_by (S.said pieces.now.source.now) (S.is_log pieces.now.source.now)) pieces.now.shape.now rows.now number found.old.items found.new.items) }
+    names: &[PartitionName],
+) -> Result<(), Unlisted<S::Fault>>
+    ensures times { OnOk result (TimesMore (known_by (S.said pieces.now.source.now) (S.is_log pieces.now.source.now)) pieces.now.shape.now rows.now names.now found.old.items found.new.items) }
     ensures unread { IfErr result (IsUnread (S.outcomes pieces.now.source.now) (length (segments_of pieces.now.shape.now.partitions))) }
 {
-    match known_at(found.as_slice(), number) {
-        Some(time) => Ok(time),
-        None => {
-            let time = read_time(alloc, pieces, rows, found, number)?;
-            Ok(time)
-        }
+    let alloc = crew.alloc;
+    let fetched = thread::map_indices(
+        crew.rt,
+        alloc,
+        names.len(),
+        &|number|
+            ensures picked { IfOk result (ArePickedAt (known_by (S.said pieces.entry.now.source.now) (S.is_log pieces.entry.now.source.now)) pieces.entry.now.shape.now.partitions names.entry.now number rows.entry.now) }
+            ensures unread { IfErr result (IsUnread (S.outcomes pieces.entry.now.source.now) (length (segments_of pieces.entry.now.shape.now.partitions))) }
+        { picked_at(alloc, pieces, rows, names, number) },
+    )?;
+    let mut number = 0;
+    for picked in fetched {
+        put_picked(alloc, &names[number], rows, found, picked?)?;
+        number += 1;
     }
+    Ok(())
 }
 
-/// The times of these rows, where they have one. Each partition that has one is read once more, one after the other.
+/// The times of these rows, of which so much is known.
+fn times_of(
+    alloc: Global,
+    rows: &[Row],
+    found: &[Option<Option<i64>>],
+) -> Result<Vec<Option<i64>>, AllocError>
+    ensures { IfOk result (λ times. times.items ≡ known_times rows.now found.now) }
+{
+    let mut times = Vec::new(alloc);
+    for i in 0..rows.len() {
+        times.push(known_at(found, i).flatten())?;
+    }
+    Ok(times)
+}
+
+/// The times of these rows, where they have one. Each partition that has one is read once more, as many at a time as there are threads.
 ///
 /// # Errors
 /// A piece isn't there any more, is a fold, or can't be read; or want of memory.
-pub(crate) fn row_times<S: Source>(
-    alloc: Global,
+pub(crate) fn row_times<S: Source, R: Threads + Sync>(
+    crew: &Crew<'_, R>,
     pieces: &Pieces<'_, S>,
     rows: &[Row],
 ) -> Result<Vec<Option<i64>>, Unlisted<S::Fault>>
     ensures times { IfOk result (λ times. AreRowTimes (known_by (S.said pieces.now.source.now) (S.is_log pieces.now.source.now)) pieces.now.shape.now rows.now times.items) }
     ensures unread { IfErr result (IsUnread (S.outcomes pieces.now.source.now) (length (segments_of pieces.now.shape.now.partitions))) }
 {
-    let mut found = Vec::new(alloc);
-    let mut times = Vec::new(alloc);
-    for i in 0..rows.len() {
-        let time = next_time(alloc, pieces, rows, &mut found, i)?;
-        times.push(time)?;
+    let names = names_timed(crew.alloc, rows)?;
+    let names = names.as_slice();
+    let mut found = Vec::new(crew.alloc);
+    let mut first = 0;
+    while first < names.len() {
+        let count = (crew.workers.get() as usize).min(names.len() - first);
+        time_each(crew, pieces, rows, &mut found, &names[first..first + count])?;
+        first += count;
     }
+    let times = times_of(crew.alloc, rows, found.as_slice())?;
     Ok(times)
 }

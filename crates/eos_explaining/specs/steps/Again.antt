@@ -1,5 +1,5 @@
 -- Partitions that a story names, and which of them were read again, by the folds of their segments.
-use Rattle.std.specs.Prelude.{◌≡◌, ◌⊎◌, ⊤, ℕ, List, [], ◌∷◌, Bool, false, Option, None, Some, option_map}
+use Rattle.std.specs.Prelude.{◌≡◌, ◌⊎◌, ⊤, ℕ, List, [], ◌∷◌, Bool, false, Option, None, Some, option_map, slice_get}
 use Rattle.eos_base.specs.Members.{Has}
 use Rattle.eos_base.specs.declared.partition_name.PartitionName.{PartitionName}
 use Rattle.eos_batch.specs.declared.record.Header.{Header}
@@ -11,7 +11,7 @@ use Rattle.eos_sought.specs.declared.folded.Folded.{Folded}
 use Rattle.eos_sought.specs.Folded.{IsFolded, AreFolded, IsNamedBy}
 use Rattle.eos_sought.specs.Partitions.{partition_named}
 use Rattle.eos_source.specs.Said.{Known}
-use Rattle.eos_source_check.specs.Again.{IsRead, IsThere}
+use Rattle.eos_source_check.specs.Again.{IsRead, IsThere, AreFoldsNamed}
 use Rattle.eos_verdict.specs.Counts.{counts_line}
 use Rattle.eos_verdict.specs.declared.verdict.Verdict.{Verdict}
 use Rattle.eos_story.specs.Names.{name_in}
@@ -47,6 +47,24 @@ IsCoveredIf shapes read (Some name) = IsCovered shapes read name
 -- each that these rows name
 abbrev pub AreCovered : List Partition → List Folded → List Row → Type 0
 AreCovered shapes read rows = (row : Row) → Has rows row → IsCoveredIf shapes read (name_in row)
+
+-- one was read by this name, or it is one of these
+abbrev pub IsNamedOrRead : List Folded → List PartitionName → Option PartitionName → Type 0
+IsNamedOrRead read names None = ⊤
+IsNamedOrRead read names (Some name) = ((f : Folded) × ((ps : List Partition) → AreFolded ps read → IsNamedBy ps name f)) ⊎ Has names name
+
+-- so it is with each row that names one
+abbrev pub AreNamedOrRead : List Folded → List PartitionName → (Row → Option PartitionName) → List Row → Type 0
+AreNamedOrRead read names named_by rows = (row : Row) → Has rows row → IsNamedOrRead read names (named_by row)
+
+-- these are the folds of the partition of this number among those named
+abbrev pub AreFoldsAt : (ℕ → Known) → List Partition → List PartitionName → ℕ → Option Folded → Type 0
+AreFoldsAt known shapes names number folds = (name : PartitionName) → slice_get names number ≡ Some name → AreFoldsNamed known shapes name folds
+
+-- there is none of these names, and so none was read
+pub record AreAbsent (shapes : List Partition) (before after : List Folded) (names : List PartitionName) : Type 0 where
+  pub same : after ≡ before
+  pub none : (name : PartitionName) → Has names name → partition_named name shapes ≡ None
 
 -- and that in which a fault stands
 abbrev pub AreNamedCovered : List Partition → List Folded → Option Place → List Row → Type 0

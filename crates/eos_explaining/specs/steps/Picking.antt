@@ -1,5 +1,5 @@
 -- Faults that are picked, none and some after others: what a sink of them has to show.
-use Rattle.std.proofs.Common.{◌≡◌, ◌∙◌, List, [], ◌++◌, map, refl, sym, ap, subst, append_assoc}
+use Rattle.std.proofs.Common.{◌∙◌, List, [], ◌++◌, map, refl, sym, ap, subst, append_assoc}
 use Rattle.std.proofs.lemmas.List.{append-nil, map-append}
 use Rattle.eos_verdict.specs.declared.verdict.Fault.{Fault}
 use Rattle.eos_verdict.specs.declared.verdict.Verdict.TheVariants.{No}

@@ -1,16 +1,20 @@
 -- The times of rows, by partitions that were read once more for them.
-use Rattle.std.specs.Prelude.{◌≡◌, ⊤, ℕ, ◌-◌, ℤ, List, [], ◌∷◌, ◌++◌, map, take, Bool, true, false, ◌&&◌, Option, Some, None, slice_get, if◌then◌else◌}
+use Rattle.std.specs.Prelude.{◌≡◌, ◌⊎◌, ⊤, ℕ, ◌-◌, ℤ, List, [], ◌∷◌, ◌++◌, map, Bool, true, false, ◌&&◌, Option, Some, None, slice_get, if◌then◌else◌}
 use Rattle.std.specs.Cmp.Lexicographic.{slice_cmp}
+use Rattle.std.specs.Option.{option_flatten}
 use Rattle.std.specs.Ordering.{nat_cmp, int_eq, is_eq}
+use Rattle.eos_base.specs.Members.{Has}
 use Rattle.eos_base.specs.declared.partition_name.PartitionName.{PartitionName}
 use Rattle.eos_batch.specs.declared.batch.Batch.{Batch}
 use Rattle.eos_evidence.specs.declared.partition.Partition.{Partition}
 use Rattle.eos_evidence.specs.Evidence.{EvidenceParts, IsEvidence}
-use Rattle.eos_sought.specs.Partitions.{is_named}
+use Rattle.eos_sought.specs.Partitions.{is_named, partition_named}
 use Rattle.eos_sought.specs.Times.{time_in, time_in_batch}
 use Rattle.eos_sought.specs.declared.finding.Find.{Find}
 use Rattle.eos_sought.specs.declared.partition.Placed.{Placed}
 use Rattle.eos_source.specs.Said.{Known}
+use Rattle.eos_source_check.specs.Picked.{ArePickedNamed}
+use Rattle.eos_source_check.specs.declared.picks.Picked.{Picked}
 use Rattle.eos_story.specs.declared.row.Row.{Row}
 use Rattle.eos_story.specs.declared.row.Row.TheVariants as rows
 use Rattle.eos_explaining.specs.Folders.{AreRead, HasThem}
@@ -145,19 +149,38 @@ AreTimesIf shape also (row ∷ others) (f ∷ fs) = IsTimeIf shape also row f ×
 
 -- ---- the code's steps
 
--- the time of the row of this number, and what is known then of all; further partitions were read for it
-pub record IsTimeMore (known : ℕ → Known) (shape : EvidenceParts) (all : List Row) (number : ℕ) (old new : List (Option (Option ℤ))) (time : Option ℤ) : Type 0 where
-  pub more : List Partition
-  pub read : AreRead known shape.partitions more
-  pub found : (before : List Partition) → AreTimesIf shape before all old → AreTimesIf shape (before ++ more) all new
-  pub is : (before : List Partition) (row : Row) → AreTimesIf shape before all old → slice_get all number ≡ Some row → IsTimeBy shape (before ++ more) row time
+-- these batches of rows stand in the partition of this number among those named
+abbrev pub ArePickedAt : (ℕ → Known) → List Partition → List PartitionName → ℕ → List Row → Option Picked → Type 0
+ArePickedAt known shapes names number all picked = (name : PartitionName) → slice_get names number ≡ Some name → ArePickedNamed known shapes name (map (spot_in name) all) picked
 
--- the times of so many rows, and what is known of all
-pub record AreTimesSoFar (known : ℕ → Known) (shape : EvidenceParts) (all : List Row) (count : ℕ) (times : List (Option ℤ)) (found : List (Option (Option ℤ))) : Type 0 where
+-- the times by what is known of them: none where nothing is
+abbrev pub known_times : List Row → List (Option (Option ℤ)) → List (Option ℤ)
+known_times [] found = []
+known_times (row ∷ others) found = option_flatten (first_known found) ∷ known_times others (rest_known found)
+
+abbrev pub IsKnown : Option (Option ℤ) → Type 0
+IsKnown f = (time : Option ℤ) × (f ≡ Some time)
+
+-- of each row whose time the partition of this name has it is known, or there is no such partition
+abbrev pub AreKnownIn : List Partition → PartitionName → List Row → List (Option (Option ℤ)) → Type 0
+AreKnownIn shapes name [] found = ⊤
+AreKnownIn shapes name (row ∷ others) found = (timed_in row ≡ Some name → (partition_named name shapes ≡ None) ⊎ IsKnown (first_known found)) × AreKnownIn shapes name others (rest_known found)
+
+-- what is known of the times of these rows once the partitions of these names were read
+pub record AreTimesKnown (known : ℕ → Known) (shape : EvidenceParts) (all : List Row) (names : List PartitionName) (found : List (Option (Option ℤ))) : Type 0 where
   pub also : List Partition
   pub read : AreRead known shape.partitions also
-  pub are : (e : EvidenceParts) → IsEvidence shape → IsEvidence e → e.spec ≡ shape.spec → HasThem e also → times ≡ map (row_time e.partitions) (take count all)
   pub so : AreTimesIf shape also all found
+  pub of : (name : PartitionName) → Has names name → AreKnownIn shape.partitions name all found
+
+-- and once that of a further name was
+abbrev pub TimesPut : PartitionName → List Row → Option Picked → List (Option (Option ℤ)) → List (Option (Option ℤ)) → Type 0
+TimesPut name all picked old new = (known : ℕ → Known) (shape : EvidenceParts) (before : List PartitionName) → ArePickedNamed known shape.partitions name (map (spot_in name) all) picked → AreTimesKnown known shape all before old
+    → AreTimesKnown known shape all (before ++ name ∷ []) new
+
+-- and once those of further names were
+abbrev pub TimesMore : (ℕ → Known) → EvidenceParts → List Row → List PartitionName → List (Option (Option ℤ)) → List (Option (Option ℤ)) → Type 0
+TimesMore known shape all names old new = (before : List PartitionName) → AreTimesKnown known shape all before old → AreTimesKnown known shape all (before ++ names) new
 
 -- the times of these rows, in each evidence of this spec that has the partitions that were read for them
 pub record AreRowTimes (known : ℕ → Known) (shape : EvidenceParts) (all : List Row) (times : List (Option ℤ)) : Type 0 where

@@ -1,16 +1,43 @@
-use Rattle.std.proofs.Common.{sym, ◌∙◌}
+use Rattle.std.proofs.Common.{◌≤◌, ◌-◌, ◌∙◌, ◌+◌, List, length, take, drop, subst, sym, rules}
 use Rattle.std.proofs.lemmas.Bool.{false≢true}
-use Rattle.eos_explaining.proofs.Covered.{more_still, rows_more}
+use Rattle.std.proofs.lemmas.List.{take_all}
+use Rattle.eos_base.specs.declared.partition_name.PartitionName.{PartitionName}
+use Rattle.eos_source.specs.Said.{known_by}
+use Rattle.eos_sought.specs.declared.folded.Folded.{Folded}
+use Rattle.eos_story.specs.Names.{name_in}
+use Rattle.eos_explaining.specs.steps.Again.{AreAbsent, AreNamedOrRead}
+use Rattle.eos_explaining.proofs.Covered.{none_come, none_absent, more_still, both_absent, take_on, rows_settled}
 use Rattle.eos_explaining.proofs.again.read_rows.Goals.{then-more, else-more}
 use Rattle.eos_explaining.proofs.again.read_rows.Goals as goal
 
-pub loop-row-preserved : goal.loop-row-preserved
-loop-row-preserved g c = (
-  more_still _ _ c.args.read.now.items c.loop-row.read.items c.read_if.new.read.items c.loop-row.invariant.0 c.in_ok-one.ensures.more,
-  rows_more c.args.pieces.now.shape.now.partitions c.args.read.now.items c.loop-row.read.items c.read_if.new.read.items c.args.rows.now c.loop-row.row-index c.row-item.result _ c.loop-row.more c.in_ok-one.one c.if-more.more
-      c.loop-row-test.true c.row-item.is c.name_in.ensures c.loop-row.invariant.1 c.in_ok-one.ensures.covered
-      (λ none. elim c.if-more.branch [
+pub loop-first-init : goal.loop-first-init
+loop-first-init g c = (search rules, none_come _ _ c.args.read.now.items, λ none. none_absent _ c.args.read.now.items)
+
+pub loop-first-preserved : goal.loop-first-preserved
+loop-first-preserved g c =
+    let source = c.args.pieces.now.source.now in
+    let known = known_by (g.S.Source.said source) (g.S.Source.is_log source) in
+    let shapes = c.args.pieces.now.shape.now.partitions in
+    let names = c.as_slice-names.result.now in
+    let start = c.args.read.now.items in
+    let first = c.loop-first.first in
+    let count = c.min-count.result in
+    let within : first + count ≤ length names = search rules in (
+      within,
+      more_still known shapes start c.loop-first.read.items c.read_each.new.read.items c.loop-first.invariant.1 c.in_ok-one.ensures.more,
+      λ none. elim c.if-more.branch [
         | then-more w ↦ absurd (false≢true (sym none ∙ (w.more-is ∙ w.if-more.true)))
-        | else-more w ↦ (w.if-more.false, sym w.more-is ∙ none)
-      ]),
-)
+        | else-more w ↦ both_absent shapes start c.loop-first.read.items c.read_each.new.read.items (take first names) (take (first + count - first) (drop first names)) (take (first + count) names)
+            (take_on names first count c.loop-first.invariant.0) (c.loop-first.invariant.2 w.if-more.false) (c.in_ok-one.ensures.absent (sym w.more-is ∙ none))
+      ],
+    )
+
+pub returns-clause-covered : goal.returns-clause-covered
+returns-clause-covered g c =
+    let shapes = c.args.pieces.now.shape.now.partitions in
+    let names = c.as_slice-names.result.now in
+    let before = c.args.read.now.items in
+    let after = c.loop-first.read.items in
+    let named : AreNamedOrRead before names name_in c.args.rows.now =
+    subst (λ (ns : List PartitionName). AreNamedOrRead before ns name_in c.args.rows.now) (sym c.as_slice-names.ensures.value) (subst (λ (fs : List Folded). AreNamedOrRead fs c.in_ok-names.names.items name_in c.args.rows.now) c.as_slice.ensures.value c.in_ok-names.ensures) in
+    rows_settled shapes before after names c.args.rows.now c.loop-first.more named (λ none. subst (λ (ns : List PartitionName). AreAbsent shapes before after ns) (take_all c.loop-first.first names c.loop-first-test.false) (c.loop-first.invariant.2 none))
