@@ -1,5 +1,6 @@
 //! What is said of an argument.
 
+use clap::ArgAction;
 use clap::builder::ValueParser;
 
 /// An argument of a subcommand.
@@ -37,4 +38,25 @@ pub(crate) enum Form {
     Valued(&'static str, ValueParser<'static>),
     /// The same, as often as wanted.
     Repeated(&'static str, ValueParser<'static>),
+}
+
+impl Form {
+    /// What is done with what the words have of it.
+    pub(crate) fn action(self) -> ArgAction {
+        match self {
+            Form::Flag => ArgAction::SetTrue,
+            Form::Several(_) | Form::Repeated(..) => ArgAction::Append,
+            Form::Alone(_) | Form::Valued(..) => ArgAction::Set,
+        }
+    }
+
+    /// What help shows for its value, and what values it takes, if it takes one.
+    pub(crate) fn value(self) -> Option<(&'static str, ValueParser<'static>)> {
+        match self {
+            Form::Flag => None,
+            Form::Alone(name) => Some((name, ValueParser::String)),
+            Form::Several(name) => Some((name, ValueParser::NonEmptyString)),
+            Form::Valued(name, values) | Form::Repeated(name, values) => Some((name, values)),
+        }
+    }
 }

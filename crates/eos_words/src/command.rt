@@ -10,9 +10,8 @@ use crate::request::{
 use crate::scripted::read_simulate;
 use crate::shrinking::read_shrink;
 use crate::subcommands::Subcommand;
-use clap::builder::ValueParser;
 use clap::error::{Error, ErrorKind};
-use clap::{Arg, ArgAction, ArgMatches, Command};
+use clap::{Arg, ArgMatches, Command};
 use eos_base::Workers;
 use eos_text::push_kinds;
 use std::alloc::{AllocError, Global};
@@ -46,8 +45,25 @@ pub fn read_words<'a, R: Print + Eprint>(
     match requested(alloc, words, CHECK_ANSWERS) {
         Ok(Some(request)) => Ok(request),
         Ok(None) => Err(NoRequest::BadWords),
-        Err(e) if e.kind() == ErrorKind::DisplayHelp => Err(print_help(rt, alloc, words)),
-        Err(e) => Err(explain(rt, &e)),
+        Err(e) => {
+            let why = print_refusal(rt, alloc, words, &e);
+            drop(e);
+            Err(why)
+        }
+    }
+}
+
+/// Prints the help that was asked for, or what is wrong with the words.
+fn print_refusal<R: Print + Eprint>(
+    rt: &R,
+    alloc: Global,
+    words: &[String],
+    e: &Error,
+) -> NoRequest {
+    if e.kind() == ErrorKind::DisplayHelp {
+        print_help(rt, alloc, words)
+    } else {
+        explain(rt, e)
     }
 }
 
@@ -58,7 +74,9 @@ fn requested<'a>(
     details: &'a str,
 ) -> Result<Option<Request<'a>>, Error> {
     let matches = make_command(alloc, details)?.try_get_matches_from(words)?;
-    Ok(read_request(alloc, &matches)?)
+    let read = read_request(alloc, &matches);
+    drop(matches);
+    Ok(read?)
 }
 
 /// Prints the help that was asked for. The details of `check` list the kinds of faults, in a text that has to live as long as
@@ -67,10 +85,13 @@ fn print_help<R: Print + Eprint>(rt: &R, alloc: Global, words: &[String]) -> NoR
     let Ok(details) = check_details(alloc) else {
         return NoRequest::OutOfMemory;
     };
-    if let Err(e) = requested(alloc, words, details.as_str()) {
-        return explain(rt, &e);
-    }
-    NoRequest::BadWords
+    let read = requested(alloc, words, details.as_str());
+    let why = match &read {
+        Ok(_) => NoRequest::BadWords,
+        Err(e) => explain(rt, e),
+    };
+    drop(read);
+    why
 }
 
 fn check_details(alloc: Global) -> Result<String, AllocError> {
@@ -135,44 +156,36 @@ fn make_subcommand<'a>(
     }
     let command = Command::new(alloc, it.name())
         .about(it.about())
-        .after_help(it.details().unwrap_or(details));
+        .after_help(it.details(details))
+        .args(arguments)?;
     match it.usage() {
-        Some(usage) => command.override_usage(usage).args(arguments),
-        None => command.args(arguments),
+        Some(usage) => Ok(command.override_usage(usage)),
+        None => Ok(command),
     }
 }
 
 fn make_argument<'a>(alloc: Global, it: &Argument) -> Result<Arg<'a>, AllocError> {
-    let argument = make_form(alloc, it);
-    match it.presence {
-        Presence::Required => Ok(argument.required(true)),
-        Presence::Optional => Ok(argument),
-        Presence::Without(first, second, third) => argument
-            .conflicts_with_all(first)?
-            .conflicts_with_all(second)?
-            .conflicts_with_all(third),
+    let mut argument = make_form(alloc, it).required(matches!(it.presence, Presence::Required));
+    if let Presence::Without(first, second, third) = it.presence {
+        for others in [first, second, third] {
+            argument = argument.conflicts_with_all(others)?;
+        }
     }
+    Ok(argument)
 }
 
 fn make_form<'a>(alloc: Global, it: &Argument) -> Arg<'a> {
-    let argument = Arg::new(alloc, it.name).help(it.help);
+    let argument = Arg::new(alloc, it.name)
+        .help(it.help)
+        .action(it.form.action());
+    let argument = match it.form.value() {
+        Some((name, values)) => argument.value_name(name).value_parser(values),
+        None => argument,
+    };
     match it.form {
-        Form::Alone(value) => argument.value_name(value),
-        Form::Several(value) => argument
-            .value_name(value)
-            .action(ArgAction::Append)
-            .num_args(1..)
-            .value_parser(ValueParser::NonEmptyString),
-        Form::Flag => argument.long(it.name).action(ArgAction::SetTrue),
-        Form::Valued(value, values) => argument
-            .long(it.name)
-            .value_name(value)
-            .value_parser(values),
-        Form::Repeated(value, values) => argument
-            .long(it.name)
-            .value_name(value)
-            .value_parser(values)
-            .action(ArgAction::Append),
+        Form::Alone(_) => argument,
+        Form::Several(_) => argument.num_args(1..),
+        _ => argument.long(it.name),
     }
 }
 
@@ -229,6 +242,8 @@ fn read_check<'a>(
         return Ok(None);
     };
     let expected = read_all(alloc, inner, "expect")?;
+    let demands = read_demands(inner.get_flag("strict"), expected.as_slice());
+    drop(expected);
     Ok(Some(Request::Check(Check {
         workers,
         json: inner.get_flag("json"),
@@ -238,7 +253,7 @@ fn read_check<'a>(
         report: inner.get_str("report"),
         page: inner.get_str("page"),
         force: inner.get_flag("force"),
-        demands: read_demands(inner.get_flag("strict"), expected.as_slice()),
+        demands,
         folders: folders.to_vec(alloc)?,
     })))
 }

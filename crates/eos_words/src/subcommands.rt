@@ -71,19 +71,19 @@ impl Subcommand {
         }
     }
 
-    /// What its help says below the arguments, where that isn't made of the catalogue of faults.
-    pub(crate) fn details<'a>(self) -> Option<&'a str> {
+    /// What its help says below the arguments; that of `check` is made of the catalogue of faults.
+    pub(crate) fn details<'a>(self, of_check: &'a str) -> &'a str {
         match self {
-            Subcommand::Check => None,
-            Subcommand::Dump => Some(DUMP_COLUMNS),
-            Subcommand::Chain => Some(CHAIN_ANSWERS),
-            Subcommand::Explain => Some(EXPLAIN_SAYS),
-            Subcommand::Draw => Some(DRAW_SHOWS),
-            Subcommand::Init => Some(INIT_WRITES),
-            Subcommand::Coordinator => Some(COORDINATOR_PRINTS),
-            Subcommand::Fold => Some(FOLD_WRITES),
-            Subcommand::Simulate => Some(SIMULATE_WRITES),
-            Subcommand::Shrink => Some(SHRINK_WRITES),
+            Subcommand::Check => of_check,
+            Subcommand::Dump => DUMP_COLUMNS,
+            Subcommand::Chain => CHAIN_ANSWERS,
+            Subcommand::Explain => EXPLAIN_SAYS,
+            Subcommand::Draw => DRAW_SHOWS,
+            Subcommand::Init => INIT_WRITES,
+            Subcommand::Coordinator => COORDINATOR_PRINTS,
+            Subcommand::Fold => FOLD_WRITES,
+            Subcommand::Simulate => SIMULATE_WRITES,
+            Subcommand::Shrink => SHRINK_WRITES,
         }
     }
 
