@@ -102,6 +102,26 @@ fn drive_words(
     ensures lossless { settings.now.unclean ≡ 0 → lost_in cluster.new.world ≡ lost_in cluster.old.world }
 {
     let mut actors = Actors::new(alloc, cluster, settings)?;
+    let taken = take_words(&mut actors, cluster, driver, script, settings);
+    let unmet = actors.plan.unmet();
+    drop(actors);
+    taken?;
+    Ok(unmet)
+}
+
+/// Takes each word, and settles what is left then, unless the run stops after its last word.
+fn take_words(
+    actors: &mut Actors,
+    cluster: &mut Cluster,
+    driver: &mut Driver,
+    script: &Script,
+    settings: &Settings<'_>,
+) -> Result<(), AllocError>
+    requires { driver.old.course ≡ cluster.old }
+    ensures done { HasDone cluster.old driver.old cluster.new driver.new }
+    ensures honest { settings.now.turning ≡ None → cluster.new.honest ≡ cluster.old.honest }
+    ensures lossless { settings.now.unclean ≡ 0 → lost_in cluster.new.world ≡ lost_in cluster.old.world }
+{
     let unclean_from = unclean_from(script);
     let mut unclean = settings.unclean;
     let mut number = 0u64;
@@ -109,16 +129,15 @@ fn drive_words(
         turn_on(cluster, driver, settings, number)?;
         actors.take_word(cluster, driver, *word)?;
         if number >= unclean_from {
-            unclean = lose_if(&mut actors, cluster, driver, unclean, u64::from(*word))?;
+            unclean = lose_if(actors, cluster, driver, unclean, u64::from(*word))?;
         }
         number = number.saturating_add(1);
     }
     turn_on(cluster, driver, settings, number)?;
     if settings.stops {
-        return Ok(actors.plan.unmet());
+        return Ok(());
     }
-    settle(&mut actors, cluster, driver)?;
-    Ok(actors.plan.unmet())
+    settle(actors, cluster, driver)
 }
 
 /// Loses a leader by this choice, if one is still to be. How many still are.

@@ -1,8 +1,8 @@
 use Rattle.std.proofs.Common.{◌∙◌, sym, ap}
 use Rattle.eos_cluster.specs.Courses.{Course}
 use Rattle.eos_drive.specs.steps.Drives.{Drive, lost_in}
-use Rattle.eos_drive.proofs.scripted.drive_words.Goals as goal
-use Rattle.eos_drive.proofs.scripted.drive_words.Goals.{then-number-unclean_from+in_ok-unclean, else-number-unclean_from}
+use Rattle.eos_drive.proofs.scripted.take_words.Goals as goal
+use Rattle.eos_drive.proofs.scripted.take_words.Goals.{then-number-unclean_from+in_ok-unclean, else-number-unclean_from}
 
 pub loop-word-preserved : goal.loop-word-preserved
 loop-word-preserved c =
