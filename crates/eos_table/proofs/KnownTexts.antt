@@ -1,5 +1,5 @@
 -- A value of the transaction log, by the text of its partitions.
-use Rattle.std.proofs.Common.{◌≡◌, ℕ, Bool, true, false, List, [], ◌∷◌, ◌++◌, length, take, drop, to_z, of_z, Some, Ok, refl, sym, ap, ◌∙◌, subst, append_assoc, arith, ℤ, ◌+◌, inl, inr}
+use Rattle.std.proofs.Common.{◌≡◌, ℕ, Bool, true, false, List, [], ◌∷◌, ◌++◌, length, take, drop, to_z, of_z, Some, Ok, refl, sym, ap, ◌∙◌, subst, append_assoc, arith, ℤ, ◌+◌, ◌-◌, min, inl, inr}
 use Rattle.std.specs.Prelude.{pos, FitsSigned, All}
 use Rattle.std.specs.Int.{w16, w32, w64}
 use Rattle.std.proofs.lemmas.List.{length-append, append-nil, nil_from_length, take_at, drop_at}
@@ -25,7 +25,7 @@ use Rattle.eos_txnlog.specs.Reading.{read_value}
 use Rattle.eos_txnlog.specs.Writing.{fits_partitions, partitions_text, head_text, tail_text, value_text, write_value}
 use Rattle.eos_txnlog.proofs.ValueTexts.{value_whole}
 use Rattle.eos_txnlog.proofs.WrittenTexts.{partitions_written}
-use Rattle.eos_table.specs.steps.Known.{version_of, section_in, with_set, IsAround, IsSetText}
+use Rattle.eos_table.specs.steps.Known.{version_of, with_set, IsAround, IsSetText}
 
 known : (form : Form) → form_of (version_of form) ≡ Some form
 known Plain = refl
@@ -52,15 +52,6 @@ around_value form bytes text section v r ps a s is =
     subst (λ (z : TxnValue). read_value bytes ≡ Ok z) (sym is) (value_whole bytes (with_set v ps) whole)
 
 -- ---- where the partitions stand in what is written
-
-split_same : (a b c d : List ℕ) → length a ≡ length b → a ++ c ≡ b ++ d → (a ≡ b) × (c ≡ d)
-split_same a b c d l e =
-    (sym (take_at a c (length b) l) ∙ (ap (take (length b)) e ∙ take_at b d (length b) refl), sym (drop_at a c (length b) l) ∙ (ap (drop (length b)) e ∙ drop_at b d (length b) refl))
-
-same_front : (p q s t : List ℕ) → length s ≡ length t → p ++ s ≡ q ++ t → p ≡ q
-same_front p q s t l e =
-    let whole : length (p ++ s) ≡ length (q ++ t) = ap length e in
-    (split_same p q s t (omega (arith, length-append p s, length-append q t, whole, l)) e).0
 
 head_length : (v : TxnValue) → length (head_text v) ≡ 15
 head_length v =
@@ -95,33 +86,33 @@ partitions_fit : (form : Form) (text : List ℕ) (ps : List TopicPartitions) →
 partitions_fit form text ps (inl l) = topics_fit form l.1 ps l.3
 partitions_fit form text ps (inr n) = subst (All FitNumbers) (sym n.1) (All-nil FitNumbers)
 
-around_set : (form : Form) (bytes text : List ℕ) (v w : TxnValue) → IsAround form bytes text (section_text form) v → write_value (version_of form) w ≡ Ok bytes → IsValueText bytes w → IsSetText form text w.partitions
-around_set form bytes text v w a e k =
-    let d = is_written form w bytes e in
-    let version = i16_text (version_of form) in
-    let c1 = split_same version version (head_text v ++ (text ++ tail_text form v)) (head_text w ++ (partitions_text form w.partitions ++ tail_text form w)) refl (sym a.parts ∙ sym d.1) in
-    let c2 = split_same (head_text v) (head_text w) (text ++ tail_text form v) (partitions_text form w.partitions ++ tail_text form w) (head_length v ∙ sym (head_length w)) c1.1 in
-    record {
-      fits = d.0;
-      numbers = partitions_fit k.form k.body_text.partitions w.partitions k.body_text.partitions_text;
-      is = same_front text (partitions_text form w.partitions) (tail_text form v) (tail_text form w) (tail_length form v ∙ sym (tail_length form w)) c2.1;
-    }
+pub set_cut : (form : Form) (written : List ℕ) (v : TxnValue) (from until : ℕ) → written ≡ value_text (version_of form) form v
+    → until ≡ length written - (16 + length (section_text form)) → from ≡ min 17 until → take (until - from) (drop from written) ≡ partitions_text form v.partitions
+set_cut form written v from until e ends begins =
+    let version : List ℕ = i16_text (version_of form) in
+    let front : List ℕ = version ++ head_text v in
+    let text : List ℕ = partitions_text form v.partitions in
+    let tail : List ℕ = tail_text form v in
+    let whole : written ≡ front ++ (text ++ tail) = e ∙ sym (append_assoc version (head_text v) (text ++ tail)) in
+    let known : length front ≡ 17 = omega (arith, length-append version (head_text v), length-i16_text (version_of form), head_length v) in
+    let long : until ≡ 17 + length text = omega (arith, ap length whole, length-append front (text ++ tail), length-append text tail, known, tail_length form v, ends) in
+    let before : length front ≡ from = omega (arith, known, long, begins) in
+    let size : length text ≡ until - from = omega (arith, known, long, before) in
+    ap (λ (z : List ℕ). take (until - from) z) (ap (λ (z : List ℕ). drop from z) whole ∙ drop_at front (text ++ tail) from before) ∙ take_at text tail (until - from) size
 
 version_held : (form : Form) → to_z w16 (of_z w16 (version_of form)) ≡ version_of form
 version_held Plain = to_z-of_z w16 (pos 0) (record { sfits = omega arith })
 version_held Flexible = to_z-of_z w16 (pos 1) (record { sfits = omega arith })
 
--- the section without a field, in either form
-section_empty : (form : Form) (section : List ℕ) → section ≡ section_text Flexible → section_in form section ≡ section_text form
-section_empty Plain section e = refl
-section_empty Flexible section e = e
-
-pub kept_set : (form found : Form) (bytes written text section : List ℕ) (v w : TxnValue) (version : ℤ) → IsAround found bytes text (section_in found section) v → section ≡ section_text Flexible → found ≡ form → bytes ≡ written → version ≡ version_of form
-    → write_value (to_z w16 (of_z w16 version)) w ≡ Ok written → IsValueText written w → IsSetText form text w.partitions
-kept_set form found bytes written text section v w version a empty same is known_version e k =
-    let plain : IsAround found bytes text (section_text found) v = subst (λ (z : List ℕ). IsAround found bytes text z v) (section_empty found section empty) a in
-    let own : IsAround form written text (section_text form) v = subst (λ (f : Form). IsAround f written text (section_text f) v) same (subst (λ (b : List ℕ). IsAround found b text (section_text found) v) is plain) in
-    around_set form written text v w own (subst (λ (z : ℤ). write_value z w ≡ Ok written) (ap (λ (z : ℤ). to_z w16 (of_z w16 z)) known_version ∙ version_held form) e) k
+pub kept_set : (form : Form) (written text : List ℕ) (w : TxnValue) (version : ℤ) → version ≡ version_of form → write_value (to_z w16 (of_z w16 version)) w ≡ Ok written → IsValueText written w
+    → ((v : TxnValue) → written ≡ value_text (version_of form) form v → text ≡ partitions_text form v.partitions) → IsSetText form text w.partitions
+kept_set form written text w version known_version e k cut =
+    let own = is_written form w written (subst (λ (z : ℤ). write_value z w ≡ Ok written) (ap (λ (z : ℤ). to_z w16 (of_z w16 z)) known_version ∙ version_held form) e) in
+    record {
+      fits = own.0;
+      numbers = partitions_fit k.form k.body_text.partitions w.partitions k.body_text.partitions_text;
+      is = cut w (sym own.1);
+    }
 
 -- ---- the fields, one after the other
 

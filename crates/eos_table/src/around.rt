@@ -1,7 +1,10 @@
 //! A value of the transaction log in two: the fields around its partitions, and their text.
 
-ghost use Rattle.std.specs.Prelude.{◌≡◌, true, IfSome};
+ghost use Rattle.std.specs.Prelude.{◌≡◌, ◌+◌, true, length, IfSome};
+ghost use Rattle.eos_wire.specs.FieldWriting.{section_text};
 ghost use Rattle.eos_wire.specs.Texts.{IsSectionText};
+ghost use Rattle.eos_txnlog.specs.declared.value.TxnValue.{TxnValue as TxnValueOf};
+ghost use Rattle.eos_txnlog.specs.Writing.{value_text, partitions_text};
 ghost use Rattle.eos_table.specs.steps.Known.{version_of, section_in, IsAround};
 
 use crate::section::Section;
@@ -72,6 +75,25 @@ pub(crate) const HEAD: usize = 17;
 /// How many bytes two times take, behind them.
 pub(crate) const TIMES: usize = 16;
 
+/// How many bytes stand behind the partitions, where the section has no field.
+#[tactic(auto, unfolding(eos_wire::specs::Writing::uvarint_of, eos_wire::specs::Writing::groups_of))]
+fn tail_len(form: Form) -> usize
+    ensures { result ≡ 16 + length (section_text form) }
+{
+    match form {
+        Form::Plain => TIMES,
+        Form::Flexible => TIMES + 1,
+    }
+}
+
+/// The text of the partitions in what is written of a value in this form, which ends in a section without a field.
+pub(crate) fn set_text(form: Form, written: &[u8]) -> &[u8]
+    ensures { (value : TxnValueOf) → written.now ≡ value_text (version_of form) form value → result.now ≡ partitions_text form value.partitions }
+{
+    let end = written.len().saturating_sub(tail_len(form));
+    &written[HEAD.min(end)..end]
+}
+
 /// The fields of a value and the text of its partitions, where in the flexible form it ends in this section. None says nothing.
 pub(crate) fn fields_around<'a>(
     alloc: Global,
@@ -82,17 +104,27 @@ pub(crate) fn fields_around<'a>(
 {
     are_bytes(value);
     let mut fields = Fields::new(value);
-    let version = fields.i16()?;
-    let form = form_of(version)?;
-    let producer = fields.i64()?;
-    let epoch = fields.i16()?;
-    let timeout = fields.i32()?;
-    let number = fields.i8()?;
-    let status = Status::from_number(number)?;
+    let (Some(version), Some(producer), Some(epoch), Some(timeout), Some(number)) = (
+        fields.i16(),
+        fields.i64(),
+        fields.i16(),
+        fields.i32(),
+        fields.i8(),
+    ) else {
+        return None;
+    };
+    let (Some(form), Some(status)) = (form_of(version), Status::from_number(number)) else {
+        return None;
+    };
     let end = section_in(form, section);
-    let text = fields.take(fields.left().saturating_sub(TIMES + end.len()))?;
-    let last_update = fields.i64()?;
-    let start = fields.i64()?;
+    let len = fields.left().saturating_sub(TIMES + end.len());
+    let (Some(text), Some(last_update), Some(start)) = (
+        fields.take(len),
+        fields.i64(),
+        fields.i64(),
+    ) else {
+        return None;
+    };
     let rest = fields.take(fields.left())?;
     if rest != end {
         return None;

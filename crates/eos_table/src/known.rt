@@ -9,10 +9,10 @@ ghost use Rattle.std.specs.Arc.{arc_value};
 ghost use Rattle.eos_table.specs.steps.Known.{IsSetText};
 ghost use Rattle.eos_table.specs.steps.Reads.{content_read};
 
-use crate::around::{Around, HEAD, TIMES, fields_around, form_in, is_same, version_of};
+use crate::around::{Around, HEAD, TIMES, fields_around, form_in, is_same, set_text, version_of};
 use crate::content::{read_id, read_state};
 use crate::section::Section;
-use crate::shared::{Sets, empty_slots};
+use crate::shared::{Sets, empty_slots, put};
 use crate::value::SharedValue;
 use bytes::Bytes;
 use eos_base::RecordFault;
@@ -171,9 +171,7 @@ impl Known {
     {
         let known = KnownKey::new(alloc, key, id)?;
         let place = slot_of(key, self.keys.len());
-        if let Some(slot) = self.keys.get_mut(place) {
-            *slot = Some(known);
-        }
+        put(&mut self.keys, place, known);
         Ok(())
     }
 
@@ -234,9 +232,7 @@ impl Known {
     {
         let known = KnownSet::new(alloc, form, text, set)?;
         let place = slot_of(text, self.sets.len());
-        if let Some(slot) = self.sets.get_mut(place) {
-            *slot = Some(known);
-        }
+        put(&mut self.sets, place, known);
         Ok(())
     }
 
@@ -267,20 +263,7 @@ impl Known {
             Err(RecordFault::OutOfMemory) => return Err(AllocError),
             Err(_) => return Ok(()),
         };
-        let empty = Section::empty(alloc)?;
-        let Some(
-            Around {
-                form: found,
-                text,
-                ..
-            },
-        ) = fields_around(alloc, written.as_slice(), &empty)
-        else {
-            return Ok(());
-        };
-        if !is_same(found, form) {
-            return Ok(());
-        }
+        let text = set_text(form, written.as_slice());
         self.keep_section(alloc, value, text.len())?;
         self.keep_set(alloc, form, text, set)
     }

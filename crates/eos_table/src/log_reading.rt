@@ -70,7 +70,7 @@ fn push_refused(
             id: id.clone()?,
             why,
         };
-        take_at(faults, place, kind)?;
+        return take_at(faults, place, kind);
     }
     Ok(())
 }
@@ -302,7 +302,13 @@ pub(crate) fn read_log(
     };
     for part in parts {
         if is_of_transaction_log(part) {
-            reading.take_part(alloc, part)?;
+            match reading.take_part(alloc, part) {
+                Ok(()) => {}
+                Err(why) => {
+                    drop(reading);
+                    return Err(why);
+                }
+            }
         }
     }
     Ok(reading)

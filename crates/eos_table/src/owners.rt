@@ -20,10 +20,7 @@ pub(crate) fn owners_of(
     lists: &[Vec<Close>],
     threads: usize,
 ) -> Result<Vec<usize>, AllocError> {
-    let mut loads = Vec::new(alloc);
-    for _thread in 0..threads {
-        loads.push(0)?;
-    }
+    let mut loads = vec![in alloc; 0; threads]?;
     let mut owners = Vec::new(alloc);
     for list in lists {
         let owner = least_of(loads.as_slice());

@@ -60,12 +60,12 @@ fn push_twice(
         return Ok(());
     };
     if decided.is_twice {
-        faults.take(MatchFault {
+        return faults.take(MatchFault {
             producer: decision.producer(),
             epoch: decision.epoch(),
             kind: MatchFaultKind::TwiceDecided,
             partition: None,
-        })?;
+        });
     }
     Ok(())
 }

@@ -124,6 +124,13 @@ pub(crate) fn empty_slots<T: Drop>(
     Ok(slots)
 }
 
+/// Puts it into this slot, if there is one, in the place of what was there.
+pub(crate) fn put<T: Drop>(slots: &mut Vec<Option<T>>, place: usize, it: T) {
+    if let Some(slot) = slots.get_mut(place) {
+        *slot = Some(it);
+    }
+}
+
 /// Sets of partitions that values share, each at the slot of what it lists; the last one stays there.
 #[derive(Drop)]
 pub(crate) struct Sets {
@@ -165,9 +172,8 @@ impl Sets {
             return Ok(known);
         }
         let made = Arc::new(self.alloc, set.clone()?)?;
-        if let Some(place) = self.slots.get_mut(slot) {
-            *place = Some(Arc::try_clone(&made)?);
-        }
+        let kept = Arc::try_clone(&made)?;
+        put(&mut self.slots, slot, kept);
         Ok(made)
     }
 }

@@ -18,31 +18,43 @@ use eos_kept::Part;
 use eos_verdict::LogFault;
 use std::alloc::{AllocError, Global};
 
+/// What the log decided, and the faults that its records show, by themselves and against each other.
+type Judged = (Vec<SharedDecision>, LogFaults);
+
+/// What a reading is asked for, without what it held.
+fn judged_by(reading: LogReading) -> Judged
+    ensures decisions { result.0.items ≡ reading.decisions.items }
+    ensures faults { result.1 ≡ reading.faults }
+{
+    let LogReading {
+        decisions,
+        faults,
+        ..
+    } = reading;
+    (decisions, faults)
+}
+
 /// What the log decided, also where it breaks its own rule.
 pub(crate) fn decisions_in(alloc: Global, parts: &[Part]) -> Result<Vec<SharedDecision>, AllocError>
     ensures { IfOk result (λ ds. ds.items ≡ decisions_of (transaction_parts parts.now)) }
 {
-    let LogReading { decisions, .. } = read_log(alloc, parts, Holding::Nothing, false)?;
+    let (decisions, faults) = judged_by(read_log(alloc, parts, Holding::Nothing, false)?);
+    drop(faults);
     Ok(decisions)
 }
 
-/// What the log decided, and the faults that its records show, by themselves and against each other.
-type Judged = (Vec<SharedDecision>, LogFaults);
-
-/// The same, where its unskipped records stand apart and none is left unfinished. None says nothing.
+/// What the log decided, and its faults, where its unskipped records stand apart and none is left unfinished. None says nothing.
 fn judge_apart(alloc: Global, parts: &[Part], keeps_all: bool) -> Result<Option<Judged>, AllocError>
     ensures decisions { IfOk result (λ o. IfSome o (λ judged. judged.0.items ≡ decisions_of (transaction_parts parts.now))) }
     ensures faults { IfOk result (λ o. IfSome o (λ judged. judged.1 ≡ fold taken (none_found keeps_all) (gathered (transaction_parts parts.now)))) }
 {
-    let LogReading {
-        held,
-        decisions,
-        faults,
-        ..
-    } = read_log(alloc, parts, Holding::Apart, keeps_all)?;
-    match held.holding {
-        Holding::Apart => Ok(Some((decisions, faults))),
-        Holding::Each | Holding::Nothing => Ok(None),
+    let reading = read_log(alloc, parts, Holding::Apart, keeps_all)?;
+    match reading.held.holding {
+        Holding::Apart => Ok(Some(judged_by(reading))),
+        Holding::Each | Holding::Nothing => {
+            drop(reading);
+            Ok(None)
+        }
     }
 }
 
@@ -55,14 +67,14 @@ fn judge_log(alloc: Global, parts: &[Part], keeps_all: bool) -> Result<Judged, A
     if let Some(judged) = judge_apart(alloc, parts, keeps_all)? {
         return Ok(judged);
     }
-    let LogReading {
-        held,
-        decisions,
-        mut faults,
-        ..
-    } = read_log(alloc, parts, Holding::Each, keeps_all)?;
-    push_doubled(alloc, &mut faults, held.marks.as_slice())?;
-    Ok((decisions, faults))
+    let mut reading = read_log(alloc, parts, Holding::Each, keeps_all)?;
+    match push_doubled(alloc, &mut reading.faults, reading.held.marks.as_slice()) {
+        Ok(()) => Ok(judged_by(reading)),
+        Err(why) => {
+            drop(reading);
+            Err(why)
+        }
+    }
 }
 
 /// What the transaction log decided, in its order: the Prepare records among the unskipped ones of the partitions of

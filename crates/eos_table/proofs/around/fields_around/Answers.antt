@@ -9,24 +9,25 @@ use Rattle.eos_table.proofs.around.fields_around.Goals as goal
 
 pub returns : goal.returns
 returns c =
-    let form = c.in_ok-form.form in
-    let version = c.in_ok-version.version in
-    let number = c.in_ok-number.number in
+    let head = c.in-Some-Some-Some-Some-Some in
+    let known = c.in-Some-Some in
+    let tail = c.in-Some-Some-Some in
+    let form = known.form in
     let v : TxnValue = record {
-      producer = c.in_ok-producer.producer;
-      epoch = c.in_ok-epoch.epoch;
-      timeout = c.in_ok-timeout.timeout;
-      status = c.in_ok-status.status;
+      producer = head.producer;
+      epoch = head.epoch;
+      timeout = head.timeout;
+      status = known.status;
       partitions = c.new-2.result;
-      last_update = c.in_ok-last_update.last_update;
-      start = c.in_ok-start.start;
+      last_update = tail.last_update;
+      start = tail.start;
     } in
-    let first : i16_at c.args.value.now ≡ Some (version, c.i16.new.self) = ap i16_at (sym c.new-fields.ensures) ∙ c.in_ok-version.ensures.read in
-    let same : version_of form ≡ version = search rules in
-    let status : status_number c.in_ok-status.status ≡ number = search rules in
+    let first : i16_at c.args.value.now ≡ Some (head.version, c.i16.new.self) = ap i16_at (sym c.new-fields.ensures) ∙ head.ensures.read in
+    let same : version_of form ≡ head.version = search rules in
+    let status : status_number known.status ≡ head.number = search rules in
     let section : c.in_ok-rest.rest.now ≡ section_in form c.args.section.now = search rules in
     let tagged : IsSectionText form (section_in form c.args.section.now) = subst (IsSectionText form) c.section_in-end.ensures.value c.section_in-end.ensures.tagged in
-    around_read form c.args.value.now c.i16.new.self c.i64.new.self c.i16-2.new.self c.i32.new.self c.i8.new.self c.take.new.self c.i64-2.new.self c.i64-3.new.self c.take-2.new.self c.in_ok-text.text.now c.in_ok-rest.rest.now (section_in form c.args.section.now)
-    v version number c.saturating_sub.result c.left-2.result
-    c.are_bytes.ensures first same c.in_ok-producer.ensures.read c.in_ok-epoch.ensures.read c.in_ok-timeout.ensures.read c.in_ok-number.ensures.read status
-    c.in_ok-text.ensures.read c.in_ok-last_update.ensures.read c.in_ok-start.ensures.read c.left-2.ensures c.in_ok-rest.ensures.read section tagged
+    around_read form c.args.value.now c.i16.new.self c.i64.new.self c.i16-2.new.self c.i32.new.self c.i8.new.self c.take.new.self c.i64-2.new.self c.i64-3.new.self c.take-2.new.self tail.text.now c.in_ok-rest.rest.now (section_in form c.args.section.now)
+    v head.version head.number c.saturating_sub-len.result c.left-2.result
+    c.are_bytes.ensures first same head.ensures'.read head.ensures''.read head.ensures'''.read head.ensures''''.read status
+    tail.ensures.read tail.ensures'.read tail.ensures''.read c.left-2.ensures c.in_ok-rest.ensures.read section tagged

@@ -6,7 +6,7 @@ use Rattle.eos_table.specs.steps.LogCandidates.{after, unread, none_found, part_
 use Rattle.eos_table.specs.steps.Held.{readout, Takes}
 use Rattle.eos_table.proofs.LogSteps.{Leaves, one_part_less, log_first, other_first, none_left, shows_unread}
 use Rattle.eos_table.proofs.log_reading.read_log.Goals as goal
-use Rattle.eos_table.proofs.log_reading.read_log.Goals.{then-is_of_transaction_log+in_ok-take_part, else-is_of_transaction_log}
+use Rattle.eos_table.proofs.log_reading.read_log.Goals.{then-is_of_transaction_log+in-Ok, else-is_of_transaction_log}
 
 pub loop-part-init : goal.loop-part-init
 loop-part-init c =
@@ -27,8 +27,8 @@ loop-part-preserved c =
     let old = readout c.loop-part.reading in
     let all = after (unread (none_found c.args.keeps_all)) (all_steps (transaction_parts logs)) (flat_map part_faults (transaction_parts logs)) in
     elim c.if-is_of_transaction_log.branch [
-      | then-is_of_transaction_log+in_ok-take_part w ↦
-          let taken = subst (λ z. Takes old (readout z) (steps_of part) (part_faults part)) (sym w.reading-is) w.in_ok-take_part.ensures in
+      | then-is_of_transaction_log+in-Ok w ↦
+          let taken = subst (λ z. Takes old (readout z) (steps_of part) (part_faults part)) (sym w.reading-is) w.in-Ok.ensures in
           let first = log_first logs i part c.loop-part-test.true c.part-item.is (sym c.is_of_transaction_log.ensures ∙ w.if-is_of_transaction_log.true) in
           one_part_less asked old (readout c.if-is_of_transaction_log.reading) part rest all taken (subst (λ z. Leaves asked old z all) first c.loop-part.invariant)
       | else-is_of_transaction_log w ↦
