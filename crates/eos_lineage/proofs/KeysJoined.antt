@@ -1,5 +1,5 @@
 -- Walks that make keys of claims, one after the other and put together.
-use Rattle.std.proofs.Common.{◌≡◌, ◌+◌, ◌-◌, ◌*◌, ◌<◌, ◌≤◌, ℕ, zero, suc, List, [], ◌∷◌, ◌++◌, length, map, take, drop, Option, Some, refl, sym, subst, ap, ◌∙◌, inl, inr, true, false, Bool, not, arith, cond}
+use Rattle.std.proofs.Common.{◌≡◌, ◌+◌, ◌-◌, ◌*◌, ◌<◌, ◌≤◌, ℕ, zero, suc, List, [], ◌∷◌, ◌++◌, length, map, take, drop, Option, Some, None, refl, sym, subst, ap, ◌∙◌, inl, inr, true, false, Bool, not, arith, cond}
 use Rattle.std.specs.Prelude.{IfSome, slice_get, ◌&&◌, ◌==◌}
 use Rattle.std.specs.List.{flat_map, filter, list_any}
 use Rattle.std.proofs.lemmas.Grind.{flat_map-append}
@@ -12,7 +12,7 @@ use Rattle.eos_claims.specs.Outputs.{PlacedClaim, Application}
 use Rattle.eos_claims.specs.Candidates.{passes}
 use Rattle.eos_lineage.specs.Lineage.{is_note}
 use Rattle.eos_lineage.specs.declared.keys.Keys.{Keys}
-use Rattle.eos_lineage.specs.steps.Keys.{KeysView, key_at, key_of, plain_keys, no_keys, joined_keys, IsKeyed, HasKeyed, EachKeyed, in_turn}
+use Rattle.eos_lineage.specs.steps.Keys.{KeysView, key_at, key_of, plain_keys, no_keys, joined_keys, IsJoined, IsKeyed, HasKeyed, EachKeyed, in_turn}
 use Rattle.eos_commits.specs.NameTables.{AreAscending}
 use Rattle.eos_lineage.specs.steps.Walks.{one_if}
 use Rattle.eos_lineage.proofs.NamePlaces.{place_at}
@@ -78,8 +78,9 @@ each_last a ns claims rs r h = subst (λ (x : Read). IfSome x (λ w. HasKeyed a 
 abbrev pub KeyedAll : List Read → Keys → Type 0
 KeyedAll rs w = (a : Application) (ns : List PartitionName) (claims : ℕ → List PlacedClaim) → EachKeyed a ns claims rs → HasKeyed a ns no_keys (plain_keys w) (in_turn claims (length rs))
 
-pub one_more : (rs : List Read) (v w next : Keys) → KeyedAll rs v → plain_keys w ≡ joined_keys (plain_keys v) (plain_keys next) → KeyedAll (rs ++ Some next ∷ []) w
-one_more rs v w next all e = λ a ns claims each.
+pub one_more : (rs : List Read) (v w : Keys) (r : Read) → KeyedAll rs v → IsJoined (plain_keys v) r (plain_keys w) → KeyedAll (rs ++ r ∷ []) w
+one_more rs v w None all e = absurd e
+one_more rs v w (Some next) all e = λ a ns claims each.
     let n : suc (length rs) ≡ length (rs ++ Some next ∷ []) = omega (arith, length-append rs (Some next ∷ [])) in
     let both = joined a ns (plain_keys v) (plain_keys next) (in_turn claims (length rs)) (claims (length rs)) (all a ns claims (each_front a ns claims rs (Some next) each)) (each_last a ns claims rs (Some next) each) in
     subst (λ k. HasKeyed a ns no_keys (plain_keys w) (in_turn claims k)) n (subst (λ (u : KeysView). HasKeyed a ns no_keys u (in_turn claims (suc (length rs)))) (sym e) both)

@@ -103,26 +103,20 @@ fn own_place_if(alloc: Global, place: &Option<PlaceRef<'_>>) -> Result<Option<Pl
 }
 
 /// The fault with names of its own.
-fn published(alloc: Global, found: &Found<'_>) -> Result<OutputFault, AllocError>
-    ensures { IfOk result (λ f. f ≡ plain_fault found.now) }
+fn published(alloc: Global, found: Option<Found<'_>>) -> Result<Option<OutputFault>, AllocError>
+    ensures { IfOk result (λ o. o ≡ option_map plain_fault found.entry) }
 {
+    let Some(found) = found else {
+        return Ok(None);
+    };
     let source = own_source(alloc, &found.source)?;
     let at = own_place_if(alloc, &found.at)?;
-    Ok(OutputFault {
+    Ok(Some(OutputFault {
         source,
         output: found.output,
         kind: found.kind,
         at,
-    })
-}
-
-fn published_if(alloc: Global, found: Option<Found<'_>>) -> Result<Option<OutputFault>, AllocError>
-    ensures { IfOk result (λ o. o ≡ option_map plain_fault found.entry) }
-{
-    match found {
-        None => Ok(None),
-        Some(found) => Ok(Some(published(alloc, &found)?)),
-    }
+    }))
 }
 
 /// Of an application with these tables and these partitions of its output topics, by so many threads at most.
@@ -141,7 +135,7 @@ pub(crate) fn make_tally<'a, R: Threads + Sync>(
     let below = sorted(rt, workers, walk.below);
     let best = least_of_neighbours(walk.best, below.as_slice());
     let (best, inputs) = take_inputs(tables, below.as_slice(), best);
-    let fault = published_if(alloc, best)?;
+    let fault = published(alloc, best)?;
     Ok(Tally {
         fault,
         inputs,

@@ -93,7 +93,9 @@ fn check_each(
     let mut outputs = 0u64;
     for app in apps {
         let pipeline = Pipeline::of(alloc, app, &table)?;
-        let tally = check_application(alloc, rt, workers, &pipeline, logs)?;
+        let checked = check_application(alloc, rt, workers, &pipeline, logs);
+        drop(pipeline);
+        let tally = checked?;
         let found = tally.fault;
         if let Some(fault) = found {
             let group = group_of(apps, app)?;

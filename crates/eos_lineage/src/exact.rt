@@ -15,7 +15,7 @@ use crate::application::Tally;
 use crate::books::Books;
 use crate::claims::Output;
 use crate::keys::{Keys, keys_of};
-use crate::shares::{Share, shares_of};
+use crate::shares::{Share, cut_shares};
 use crate::sorting::sorted;
 use eos_base::{Workers, is_below};
 use eos_commits::is_visible;
@@ -216,8 +216,10 @@ fn count_inputs<R: Threads + Sync>(
 ) -> Option<u64>
     ensures { (a : Application) → AreBooks a books.now → IfSome result (λ n. HasTaken books.now.names.now (record { keys = keys.now; inputs = 0 }) (record { keys = []; inputs = n }) (inputs_below a)) }
 {
-    let shares = shares_of(alloc, workers, books.parts.len(), keys)?;
-    count_shares(alloc, rt, books, shares.as_slice())
+    match cut_shares(alloc, workers, books.parts.len(), keys) {
+        Ok(shares) => count_shares(alloc, rt, books, shares.as_slice()),
+        Err(_) => None,
+    }
 }
 
 /// The counts of an application whose outputs are exact. None says nothing: a claim may have greater numbers than the keys have

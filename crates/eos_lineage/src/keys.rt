@@ -8,9 +8,8 @@ ghost use Rattle.eos_base.specs.declared.partition_name.PartitionName.{Partition
 ghost use Rattle.eos_claims.specs.Outputs.{Application, PlacedClaim};
 ghost use Rattle.eos_fold.specs.declared.item.Item.{Item};
 ghost use Rattle.eos_kept.specs.Looks.{IsLook};
-ghost use Rattle.eos_lineage.specs.steps.Keys.{key_at, plain_keys, no_keys, joined_keys, AreBooks, HasKeyed, EachKeyed, in_turn};
+ghost use Rattle.eos_lineage.specs.steps.Keys.{key_at, plain_keys, no_keys, IsJoined, AreBooks, HasKeyed, EachKeyed, in_turn};
 ghost use Rattle.eos_lineage.specs.steps.Walks.{one_if, plain_placed, claim_at, output_claims};
-ghost use Rattle.eos_lineage.specs.steps.Tables.{is_reached};
 
 use crate::books::Books;
 use crate::claims::{Output, PlacedRef, placed_of};
@@ -67,23 +66,6 @@ fn counted(outputs: u64, claim: &ClaimRef<'_>) -> Option<u64>
     }
 }
 
-/// Whether the claim's transaction committed past its source.
-fn is_passed(
-    books: &Books<'_, '_, '_, '_, '_, '_>,
-    marks: &mut PassMarks,
-    placed: &PlacedRef<'_>,
-) -> bool
-    ensures { result ≡ is_reached books.now.passes.now placed.now.writer (plain_placed placed.now).source }
-{
-    let claim = &placed.claim;
-    let source = SourceRef {
-        topic: claim.topic,
-        partition: claim.partition,
-        offset: claim.offset,
-    };
-    books.passes.is_passed(marks, placed.writer, &source)
-}
-
 /// Takes a claim, if its numbers have the bits and its transaction committed past its source.
 fn take_claim(
     keys: &mut Keys,
@@ -98,7 +80,15 @@ fn take_claim(
         .names
         .index_near(&mut marks.name, claim.topic, claim.partition)?;
     let key = key_of(place, claim)?;
-    if !is_passed(books, &mut marks.pass, placed) {
+    let source = SourceRef {
+        topic: claim.topic,
+        partition: claim.partition,
+        offset: claim.offset,
+    };
+    if !books
+        .passes
+        .is_passed(&mut marks.pass, placed.writer, &source)
+    {
         return None;
     }
     keys.outputs = counted(keys.outputs, claim)?;
@@ -193,14 +183,14 @@ fn take_chunk(
     take_first(alloc, &ground.books, outputs, size)
 }
 
-/// Puts keys at the end of others.
-fn join_two(keys: &mut Keys, next: Keys) -> Option<()>
-    ensures { IfSome result (λ done. plain_keys keys.new ≡ joined_keys (plain_keys keys.old) (plain_keys next)) }
+/// Puts keys at the end of others, where they are there.
+fn join_two(keys: &mut Keys, next: Option<Keys>) -> Option<()>
+    ensures { IfSome result (λ done. IsJoined (plain_keys keys.old) next (plain_keys keys.new)) }
 {
     let Keys {
         keys: mut more,
         outputs,
-    } = next;
+    } = next?;
     keys.outputs = keys.outputs.checked_add(outputs)?;
     if keys.keys.is_empty() {
         keys.keys = more;
@@ -219,7 +209,7 @@ fn join_keys(alloc: Global, chunks: Vec<Option<Keys>>) -> Option<Keys>
         outputs: 0,
     };
     for keys in chunks {
-        join_two(&mut all, keys?)?;
+        join_two(&mut all, keys)?;
     }
     Some(all)
 }

@@ -1,6 +1,6 @@
 //! Which transactions committed past which records.
 
-ghost use Rattle.std.specs.Prelude.{◌≡◌, ◌<◌, ◌++◌, true, map, flat_map, option_map, IfOk, OnOk, IsPermutation, IsSorted};
+ghost use Rattle.std.specs.Prelude.{◌≡◌, ◌++◌, true, map, flat_map, option_map, IfOk, OnOk, IsPermutation, IsSorted};
 ghost use Rattle.std.specs.List.{list_any};
 ghost use Rattle.eos_claims.specs.Plain.{plain_source};
 ghost use Rattle.eos_commits.specs.Plain.{plain_commit};
@@ -48,13 +48,6 @@ impl PassMarks {
     pub(crate) fn new() -> PassMarks {
         PassMarks { places: [0; MARKS] }
     }
-}
-
-/// The number of a producer's mark.
-fn mark_of(producer: i64) -> usize
-    ensures { result < 16 }
-{
-    (producer.unsigned_abs() % 16) as usize
 }
 
 /// What transactions passed, in order, which contracts see as a list.
@@ -213,7 +206,7 @@ impl<'a> PassTable<'a> {
             },
             last: source.offset,
         };
-        let slot = mark_of(producer);
+        let slot = (producer.unsigned_abs() % 16) as usize;
         let mut mark = marks.places[slot];
         let is_passed = self.reaches_near(&mut mark, &wanted);
         marks.places[slot] = mark;

@@ -1,6 +1,6 @@
 //! Partitions and the keys of claims, cut into shares that threads take side by side.
 
-ghost use Rattle.std.specs.Prelude.{◌≤◌, [], length, IfOk, IfSome};
+ghost use Rattle.std.specs.Prelude.{◌≤◌, [], length, IfOk};
 ghost use Rattle.eos_lineage.specs.steps.Shares.{Follow};
 
 use eos_base::Workers;
@@ -45,7 +45,7 @@ fn partition_after(keys: &[u64], count: usize) -> usize {
 
 /// Cuts partitions and keys in order into shares that have about as many keys each, one for each of so many threads at
 /// most. A partition and its keys are never cut apart.
-fn cut_shares<'k>(
+pub(crate) fn cut_shares<'k>(
     alloc: Global,
     workers: Workers,
     parts: usize,
@@ -77,16 +77,4 @@ fn cut_shares<'k>(
         keys: left,
     })?;
     Ok(shares)
-}
-
-/// The same, where there is memory for them.
-pub(crate) fn shares_of<'k>(
-    alloc: Global,
-    workers: Workers,
-    parts: usize,
-    keys: &'k [u64],
-) -> Option<Vec<Share<'k>>>
-    ensures { IfSome result (λ shares. Follow 0 keys.entry.now shares.items parts []) }
-{
-    cut_shares(alloc, workers, parts, keys).ok()
 }

@@ -1,5 +1,5 @@
 -- Claims and inputs as numbers, by which outputs are told that are as they should be.
-use Rattle.std.specs.Prelude.{◌≡◌, ◌<◌, ◌+◌, ◌*◌, ⊤, ℕ, zero, suc, ℤ, pos, int_lt, true, ◌&&◌, not, List, [], ◌∷◌, ◌++◌, length, map, filter, flat_map, Option, IfSome, if◌then◌else◌, slice_index_or, IsPermutation}
+use Rattle.std.specs.Prelude.{◌≡◌, ◌<◌, ◌+◌, ◌*◌, ⊤, ℕ, zero, suc, ℤ, pos, int_lt, true, ◌&&◌, not, List, [], ◌∷◌, ◌++◌, length, map, filter, flat_map, Option, Some, None, IfSome, if◌then◌else◌, slice_index_or, IsPermutation}
 use Rattle.std.specs.List.{list_any}
 use Rattle.std.specs.Ordering.{is_eq}
 use Rattle.std.specs.declared.cmp.Ordering.TheVariants.{Less}
@@ -99,6 +99,11 @@ pub record HasKeyed (a : Application) (ns : List PartitionName) (before after : 
 -- one list of keys after the other
 abbrev pub joined_keys : KeysView → KeysView → KeysView
 joined_keys v w = record { keys = v.keys ++ w.keys; outputs = v.outputs + w.outputs }
+
+-- the second, which is there, was put at the end of the first
+abbrev pub IsJoined : KeysView → Option Keys → KeysView → Type 0
+IsJoined v None w = ⊥
+IsJoined v (Some next) w = w ≡ joined_keys v (plain_keys next)
 
 -- each of them has the keys of its claims, where it is there
 abbrev pub EachKeyed : Application → List PartitionName → (ℕ → List PlacedClaim) → List (Option Keys) → Type 0

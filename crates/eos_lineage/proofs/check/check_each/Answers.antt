@@ -23,7 +23,7 @@ loop-app-preserved g c = λ are.
     let d = c.app-item.result in
     let tally = c.in_ok-tally.tally in
     let pipe = c.in_ok-pipeline.ensures apps parts (subst (λ (ps : List PartLog). IsTableOf apps ps c.in_ok-table.table) c.parts.ensures c.in_ok-table.ensures) (item_has apps c.loop-app.app-index d c.loop-app-test.true c.app-item.is) in
-    let here = subst (λ (o : Option OutputFault). IsOutputsAnswer (application_of d parts) o tally.inputs tally.outputs) c.in_default.is (c.in_ok-tally.ensures d are pipe) in
+    let here = subst (λ (o : Option OutputFault). IsOutputsAnswer (application_of d parts) o tally.inputs tally.outputs) c.in_default.is ((rw c.in_ok-tally.was at c.check_application-checked.ensures) d are pipe) in
     let answer = subst (λ (t : App). IsOutputsAnswer (application_of t parts) None tally.inputs tally.outputs) c.app-item.is here in
     let more = passed_more apps parts c.loop-app.app-index d c.loop-app.inputs c.loop-app.outputs tally.inputs tally.outputs c.loop-app-test.true (c.loop-app.invariant are) answer in
     subst (λ (n : ℕ). PassedSoFar (take (c.loop-app.app-index + 1) apps) parts n c.in_ok-outputs.outputs) (sym c.in_ok-inputs.ensures)
@@ -37,7 +37,7 @@ returns-in-Some g c = λ are none.
     let d = c.app-item.result in
     let tally = c.in_ok-tally.tally in
     let pipe = c.in_ok-pipeline.ensures apps parts (subst (λ (ps : List PartLog). IsTableOf apps ps c.in_ok-table.table) c.parts.ensures c.in_ok-table.ensures) (item_has apps c.loop-app.app-index d c.loop-app-test.true c.app-item.is) in
-    let here = subst (λ (o : Option OutputFault). IsOutputsAnswer (application_of d parts) o tally.inputs tally.outputs) c.in-Some.is (c.in_ok-tally.ensures d are pipe) in
+    let here = subst (λ (o : Option OutputFault). IsOutputsAnswer (application_of d parts) o tally.inputs tally.outputs) c.in-Some.is ((rw c.in_ok-tally.was at c.check_application-checked.ensures) d are pipe) in
     let least = subst (λ (t : App). IsLeast outputs.fault_cmp (outputs.Stands (application_of t parts)) c.in-Some.fault) c.app-item.is here in
     let first = first_fault apps parts i d c.loop-app.inputs c.loop-app.outputs c.in-Some.fault c.requires c.loop-app-test.true none (c.loop-app.invariant are) least in
     let group = sym (c.in_ok-group.ensures ∙ ap (named_group apps) c.app-item.is) in

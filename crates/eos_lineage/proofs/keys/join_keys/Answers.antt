@@ -1,16 +1,13 @@
-use Rattle.std.proofs.Common.{◌≡◌, List, Some, [], ◌∷◌, ◌++◌, length, sym, subst, rules, ◌∙◌}
+use Rattle.std.proofs.Common.{◌≡◌, List, length, sym, subst, ◌∙◌}
 use Rattle.std.proofs.lemmas.List.{map-id}
 use Rattle.std.proofs.lemmas.Iterator.Adapters.{YieldsList-from_vec}
 use Rattle.std.proofs.lemmas.Iterator.Consumers.{YieldsList-end}
 use Rattle.eos_lineage.specs.steps.Keys.{plain_keys, no_keys, HasKeyed, EachKeyed, in_turn}
-use Rattle.eos_lineage.proofs.KeysJoined.{Read, KeyedAll, one_more}
+use Rattle.eos_lineage.proofs.KeysJoined.{Read, one_more}
 use Rattle.eos_lineage.proofs.keys.join_keys.Goals as goal
 
 pub loop-keys-preserved : goal.loop-keys-preserved
-loop-keys-preserved c =
-    let is : c.in-Some.keys ≡ Some c.in_ok-keys.field-0 = search rules in
-    subst (λ (r : Read). KeyedAll (c.loop-keys.yielded ++ r ∷ []) c.join_two.new.keys) (sym is)
-    (one_more c.loop-keys.yielded c.loop-keys.all c.join_two.new.keys c.in_ok-keys.field-0 c.loop-keys.invariant c.in_ok-join_two.ensures)
+loop-keys-preserved c = one_more c.loop-keys.yielded c.loop-keys.all c.join_two.new.keys c.in-Some.keys c.loop-keys.invariant c.in_ok-join_two.ensures
 
 pub returns : goal.returns
 returns c = λ a ns claims each.
