@@ -9,7 +9,7 @@ use Rattle.eos_kept.specs.Faults.{AreFaultsIn, first_of}
 use Rattle.eos_touch.specs.declared.fault.PartitionFault.{PartitionFault}
 
 -- a log's fault is its partition's
-fault_of : (p : Partition) (l : PartLog) → IsLogOf p l → (f : Option PartitionFault) → IsFaultIn p.end.topic p.end.partition p.end.end p.segments f → IsFaultOf l f
+pub fault_of : (p : Partition) (l : PartLog) → IsLogOf p l → (f : Option PartitionFault) → IsFaultIn p.end.topic p.end.partition p.end.end p.segments f → IsFaultOf l f
 fault_of p l of f h =
     let topic = subst (λ (t : List ℕ). IsFaultIn t p.end.partition p.end.end p.segments f) (sym of.log.of_topic) h in
     let number = subst (λ (n : ℤ). IsFaultIn l.topic n p.end.end p.segments f) (sym of.log.of_number) topic in

@@ -1,5 +1,8 @@
 pub mod PushedMore
 pub mod TopicSets
+pub mod PickedMore
+pub mod LastCalls
+pub mod TestsLeft
 pub mod LeastGaps
 pub mod EachOnce
 pub mod UnlistedNotes
@@ -12,5 +15,4 @@ pub mod BeforeOffset
 pub mod PartitionRows
 pub mod SourceRows
 pub mod CountedLooks
-pub mod TalliesFirstNamed
 pub mod TalliesWhole

@@ -13,7 +13,7 @@ use Rattle.eos_notes.specs.Counts.{AreCounted}
 use Rattle.eos_notes.specs.PartitionTallies.{roles_of, ArePartitionTallies}
 use Rattle.eos_notes.specs.Tallies.{AreTallies}
 use Rattle.eos_notes.specs.TalliesByLogs.{beside, partition_tally, tallies_by}
-use Rattle.eos_notes.proofs.TalliesFirstNamed.{fault_of, first_named}
+use Rattle.eos_notes.proofs.FirstNamed.{fault_of, first_named}
 
 rows_whole : (roles : Topic → TopicRoles) (ps : List Partition) (ls : List PartLog) (fs : List (Option PartitionFault)) (cs : List Counted) → AreLogsOf ps ls → AreFaultsIn ps fs → AreCounted ps cs
     → ArePartitionTallies roles ps ls (map (partition_tally roles) (beside ls fs cs))

@@ -9,13 +9,14 @@ ghost use Rattle.eos_commits.specs.Tables.{IsTableOf};
 ghost use Rattle.eos_evidence.specs.declared.application.App.{App as AppOf};
 ghost use Rattle.eos_notes.specs.CommitNotes.{past_ends_in, nothing_in, behind_in, past_ends, nothing_committed, behind};
 ghost use Rattle.eos_notes.specs.ManifestNotes.{no_application, absent_topics, gaps, absent_internals};
-ghost use Rattle.eos_notes.specs.Notes.{of_manifest, AreNotesBy};
+ghost use Rattle.eos_notes.specs.Notes.{AreNotesBy};
+ghost use Rattle.eos_notes.specs.declared.note.Note.{Note as NoteOf};
 ghost use Rattle.eos_notes.specs.steps.Counted.{AreOffsetsFor};
 
 use crate::groups::{count_inputs, push_behind, push_nothing, push_past_ends};
 use crate::manifest::{push_absent_topics, push_gaps, push_internals, push_no_application};
 use crate::note::Note;
-use crate::unlisted::unlisted_notes;
+use crate::unlisted::push_unlisted;
 use eos_commits::{CommitRef, CommitTable, TopicSet, committed_offsets};
 use eos_evidence::{App, End, Spec};
 use eos_kept::Part;
@@ -95,8 +96,7 @@ fn take_app(
         commits,
         offsets: offsets.as_slice(),
     };
-    take_commits(found, app, &sources, parts, &committed)?;
-    Ok(())
+    take_commits(found, app, &sources, parts, &committed)
 }
 
 /// What the applications' groups have committed.
@@ -118,13 +118,6 @@ fn found_of(
     Ok(found)
 }
 
-/// Puts these behind the others.
-fn append(all: &mut Vec<Note>, notes: &mut Vec<Note>) -> Result<(), AllocError>
-    ensures { OnOk result (all.new.items ≡ all.old.items ++ notes.old.items) }
-{
-    all.append(notes)
-}
-
 /// Puts the notes behind those of partitions that aren't in `ends`.
 fn push_all(
     alloc: Global,
@@ -136,16 +129,20 @@ fn push_all(
     ensures { OnOk result (all.new.items ≡ all.old.items ++ (found.old.past_ends.items ++ (absent_topics ends.now apps.now ++ (gaps apps.now ends.now
         ++ (found.old.nothing.items ++ (absent_internals ends.now ++ found.old.behind.items)))))) }
 {
-    append(all, &mut found.past_ends)?;
+    all.append(&mut found.past_ends)?;
     push_absent_topics(alloc, all, apps, ends)?;
     push_gaps(alloc, all, apps, ends)?;
-    append(all, &mut found.nothing)?;
+    all.append(&mut found.nothing)?;
     push_internals(alloc, all, ends)?;
-    append(all, &mut found.behind)?;
+    all.append(&mut found.behind)?;
     Ok(())
 }
 
-fn push_of_manifest(
+/// Puts the notes that the manifest alone shows at the end.
+///
+/// # Errors
+/// Only want of memory.
+pub(crate) fn push_of_manifest(
     alloc: Global,
     all: &mut Vec<Note>,
     apps: &[App],
@@ -160,44 +157,25 @@ fn push_of_manifest(
     Ok(())
 }
 
-/// The notes that the manifest alone shows.
+/// Puts the notes of an evidence with this manifest and these logs at the end, whole ones or what is kept of them, of which none has a
+/// fault, by the commits of its applications' groups: signs that it isn't the one that was meant.
 ///
 /// # Errors
 /// Only want of memory.
-pub(crate) fn manifest_notes(alloc: Global, spec: &Spec) -> Result<Vec<Note>, AllocError>
-    ensures { IfOk result (λ all. all.items ≡ of_manifest spec.now) }
-{
-    let mut all = Vec::new(alloc);
-    push_of_manifest(
-        alloc,
-        &mut all,
-        spec.apps().as_slice(),
-        spec.ends().as_slice(),
-    )?;
-    Ok(all)
-}
-
-/// The notes of an evidence with this manifest and these logs, whole ones or what is kept of them, of which none has a fault, by the
-/// commits of its applications' groups: signs that it isn't the one that was meant.
-///
-/// # Errors
-/// Only want of memory.
-pub(crate) fn notes(
+pub(crate) fn push_notes(
     alloc: Global,
+    all: &mut Vec<Note>,
     spec: &Spec,
     table: &CommitTable<'_>,
     parts: &[Part],
-) -> Result<Vec<Note>, AllocError>
+) -> Result<(), AllocError>
     requires { IsTableOf spec.now.apps parts.now table.now }
-    ensures { AreInOrder parts.now → IfOk result (λ all. AreNotesBy spec.now parts.now false all.items) }
+    ensures { AreInOrder parts.now → OnOk result ((notes : List NoteOf) × AreNotesBy spec.now parts.now false notes × (all.new.items ≡ all.old.items ++ notes)) }
 {
     let apps = spec.apps().as_slice();
     let ends = spec.ends().as_slice();
-    let mut all = Vec::new(alloc);
-    push_no_application(&mut all, apps)?;
-    let mut unlisted = unlisted_notes(alloc, apps, ends, table)?;
-    append(&mut all, &mut unlisted)?;
+    push_no_application(all, apps)?;
+    push_unlisted(alloc, all, apps, ends, table)?;
     let mut found = found_of(alloc, apps, table, parts)?;
-    push_all(alloc, &mut all, &mut found, apps, ends)?;
-    Ok(all)
+    push_all(alloc, all, &mut found, apps, ends)
 }

@@ -1,6 +1,6 @@
 //! The table of groups.
 
-ghost use Rattle.std.specs.Prelude.{◌≡◌, ◌++◌, ◌∷◌, [], ℤ, pos, is_some, map, filter, get_or, IfOk, OnOk, IsPermutation};
+ghost use Rattle.std.specs.Prelude.{◌≡◌, ◌++◌, ℤ, is_some, map, filter, IfOk, OnOk, IsPermutation};
 ghost use Rattle.eos_base.specs.declared.partition_name.PartitionName.{PartitionName as Name};
 ghost use Rattle.eos_claims.specs.Outputs.{committed_offset};
 ghost use Rattle.eos_commits.specs.Faults.{AreInOrder};
@@ -12,7 +12,7 @@ ghost use Rattle.eos_notes.specs.GroupTallies.{source_tally, group_tally as tall
 ghost use Rattle.eos_notes.specs.TalliesByLogs.{group_tallies};
 ghost use Rattle.eos_notes.specs.steps.TalliesCounted.{source_if};
 
-use crate::records::count_below;
+use crate::groups::{Count, count_part, offset_at};
 use crate::tally::{GroupTally, SourceTally};
 use eos_base::Listed;
 use eos_commits::{TopicSet, commits_of, committed_offsets};
@@ -29,23 +29,22 @@ fn push_source(
 ) -> Result<(), AllocError>
     ensures { OnOk result (all.new.items ≡ all.old.items ++ source_if sources.now committed part.now) }
 {
-    if sources.has(part.topic().as_slice()) {
-        all.push(SourceTally {
-            topic: part.topic().clone()?,
-            partition: part.partition(),
-            committed,
-            end: part.end(),
-            visible_inputs_below: count_below(part, committed)?,
-        })?;
+    if !sources.has(part.topic().as_slice()) {
+        return Ok(());
     }
+    let none = Count {
+        below: 0,
+        inputs: 0,
+    };
+    let count = count_part(none, part, committed)?;
+    all.push(SourceTally {
+        topic: part.topic().clone()?,
+        partition: part.partition(),
+        committed,
+        end: part.end(),
+        visible_inputs_below: count.below,
+    })?;
     Ok(())
-}
-
-/// The offset that is committed for the part at this place.
-fn offset_at(offsets: &[i64], i: usize) -> i64
-    ensures { result ≡ get_or offsets.now i (pos 0) }
-{
-    if i < offsets.len() { offsets[i] } else { 0 }
 }
 
 /// The partitions of these topics, by the committed offset of each part.
@@ -91,8 +90,7 @@ fn group_tally(alloc: Global, app: &App, parts: &[Part]) -> Result<GroupTally, A
     let commits = commits_of(alloc, app.group.as_bytes(), topics, parts)?;
     let commits = commits.as_slice();
     let offsets = committed_offsets(alloc, parts, commits)?;
-    let tally = group_tally_by(alloc, app, &sources, parts, offsets.as_slice())?;
-    Ok(tally)
+    group_tally_by(alloc, app, &sources, parts, offsets.as_slice())
 }
 
 fn all_groups(alloc: Global, apps: &[App], parts: &[Part]) -> Result<Vec<GroupTally>, AllocError>

@@ -10,7 +10,7 @@ ghost use Rattle.eos_commits.specs.Applications.{is_part_of, inputs_in, inputs_b
 ghost use Rattle.eos_notes.specs.CommitNotes.{past_end_at, nothing_by, behind_by};
 ghost use Rattle.eos_notes.specs.steps.Counted.{past_end_if, count_visible, count_below};
 
-use crate::note::Note;
+use crate::note::{Note, add_note};
 use eos_base::{PartitionName, is_below, sum};
 use eos_commits::{CommitRef, TopicSet, is_visible};
 use eos_evidence::GroupId;
@@ -34,29 +34,17 @@ pub(crate) fn offset_at(offsets: &[i64], i: usize) -> i64
 
 // ---- past the end
 
-fn push_past_end(
-    all: &mut Vec<Note>,
-    group: &GroupId,
-    part: &Part,
-    offset: i64,
-) -> Result<(), AllocError>
-    ensures { OnOk result (all.new.items ≡ all.old.items ++ past_end_at group.now part.now offset) }
+/// The name of a part.
+pub(crate) fn name_of(part: &Part) -> Result<PartitionName, AllocError>
+    ensures { IfOk result (λ name. name ≡ part_name part.now) }
 {
-    if offset > part.end() {
-        all.push(Note::PastEnd {
-            group: group.clone()?,
-            offset,
-            partition: PartitionName {
-                topic: part.topic().clone()?,
-                partition: part.partition(),
-            },
-            end: part.end(),
-        })?;
-    }
-    Ok(())
+    Ok(PartitionName {
+        topic: part.topic().clone()?,
+        partition: part.partition(),
+    })
 }
 
-fn push_past_end_if(
+fn push_past_end(
     all: &mut Vec<Note>,
     group: &GroupId,
     sources: &TopicSet<'_>,
@@ -65,10 +53,21 @@ fn push_past_end_if(
 ) -> Result<(), AllocError>
     ensures { OnOk result (all.new.items ≡ all.old.items ++ (if is_part_of sources.now part.now then past_end_at group.now part.now offset else [])) }
 {
-    if sources.has(part.topic().as_slice()) {
-        push_past_end(all, group, part, offset)?;
+    if !sources.has(part.topic().as_slice()) {
+        return Ok(());
     }
-    Ok(())
+    if offset > part.end() {
+        let partition = name_of(part)?;
+        let past = Note::PastEnd {
+            group: group.clone()?,
+            offset,
+            partition,
+            end: part.end(),
+        };
+        add_note(all, past)
+    } else {
+        Ok(())
+    }
 }
 
 /// Puts a note at the end for each partition of these topics of which the committed offset is past its end.
@@ -86,7 +85,7 @@ pub(crate) fn push_past_ends(
         → all.new.items ≡ all.old.items ++ flat_map (past_end_if sources.now group.now committed) parts.now) }
 {
     for i in 0..parts.len() {
-        push_past_end_if(all, group, sources, &parts[i], offset_at(offsets, i))?;
+        push_past_end(all, group, sources, &parts[i], offset_at(offsets, i))?;
     }
     Ok(())
 }
@@ -105,11 +104,11 @@ pub(crate) fn push_nothing(
     ensures { OnOk result (all.new.items ≡ all.old.items ++ nothing_by group.now (map plain_commit commits.now)) }
 {
     if commits.is_empty() {
-        all.push(Note::NothingCommitted {
-            group: group.clone()?,
-        })?;
+        let group = group.clone()?;
+        add_note(all, Note::NothingCommitted { group })
+    } else {
+        Ok(())
     }
-    Ok(())
 }
 
 // ---- behind
@@ -125,14 +124,20 @@ pub(crate) fn push_behind(
 ) -> Result<(), AllocError>
     ensures { OnOk result (all.new.items ≡ all.old.items ++ behind_by group.now count.below count.inputs) }
 {
-    if count.below < count.inputs {
-        all.push(Note::Behind {
-            group: group.clone()?,
-            below: count.below,
-            inputs: count.inputs,
-        })?;
+    let Count { below, inputs } = count;
+    if below < inputs {
+        let group = group.clone()?;
+        add_note(
+            all,
+            Note::Behind {
+                group,
+                below,
+                inputs,
+            },
+        )
+    } else {
+        Ok(())
     }
-    Ok(())
 }
 
 /// With a record of this fate and offset more.
@@ -165,7 +170,10 @@ fn count_batch(before: Count, batch: &KeptBatch<'_>, committed: i64) -> Result<C
 }
 
 /// With the records of a partition.
-fn count_part(before: Count, part: &Part, committed: i64) -> Result<Count, AllocError>
+///
+/// # Errors
+/// Only want of memory.
+pub(crate) fn count_part(before: Count, part: &Part, committed: i64) -> Result<Count, AllocError>
     ensures inputs { IfOk result (λ c. c.inputs ≡ before.inputs + count_visible part.now.items) }
     ensures below { IfOk result (λ c. c.below ≡ before.below + count_below committed part.now.items) }
 {

@@ -17,7 +17,6 @@ mod lines;
 mod manifest;
 mod note;
 mod partitions;
-mod records;
 mod replaced;
 mod replicas;
 mod tally;

@@ -45,6 +45,5 @@ fn all_found_lines(
         → IfOk result (λ text. IsAllNotesTextBy spec.now logs.now.parts.items epochs.now (is_some (first_of logs.now.faults.items)) false (string_bytes text)) }
 {
     let found = all_notes(alloc, spec, logs, epochs)?;
-    let lines = note_lines(alloc, found.as_slice())?;
-    Ok(lines)
+    note_lines(alloc, found.as_slice())
 }

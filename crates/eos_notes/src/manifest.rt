@@ -7,7 +7,7 @@ ghost use Rattle.std.specs.Cmp.Lexicographic.{slice_cmp};
 ghost use Rattle.eos_base.specs.Members.{is_found};
 ghost use Rattle.eos_notes.specs.ManifestNotes.{no_application, topics_of, absent_topic, absent_in, absent_topics, is_lesser as is_lesser_of, is_least as is_least_of, numbers_of, is_gap as is_gap_of, least_gap as least_gap_of, gap_note, gap_at, gaps, absent_internal, absent_internals};
 
-use crate::note::{InternalTopic, Note};
+use crate::note::{InternalTopic, Note, add_note};
 use bytes::Bytes;
 use eos_commits::TopicSet;
 use eos_evidence::{App, End, GroupId, push_topics};
@@ -23,9 +23,10 @@ pub(crate) fn push_no_application(all: &mut Vec<Note>, apps: &[App]) -> Result<(
     ensures { OnOk result (all.new.items ≡ all.old.items ++ no_application apps.now) }
 {
     if apps.is_empty() {
-        all.push(Note::NoApplication)?;
+        add_note(all, Note::NoApplication)
+    } else {
+        Ok(())
     }
-    Ok(())
 }
 
 // ---- topics
@@ -71,13 +72,12 @@ fn push_absent_topic(
 ) -> Result<(), AllocError>
     ensures { OnOk result (all.new.items ≡ all.old.items ++ absent_topic (is_found (slice_cmp nat_cmp) present.now) group.now topic.now) }
 {
-    if !present.has(topic.as_slice()) {
-        all.push(Note::NoPartition {
-            topic: topic.clone()?,
-            group: group.clone()?,
-        })?;
+    if present.has(topic.as_slice()) {
+        return Ok(());
     }
-    Ok(())
+    let topic = topic.clone()?;
+    let group = group.clone()?;
+    add_note(all, Note::NoPartition { topic, group })
 }
 
 fn push_absent_among(
@@ -129,8 +129,7 @@ pub(crate) fn push_absent_topics(
 {
     let topics = topics_of_ends(alloc, ends)?;
     let present = TopicSet::of(alloc, topics.as_slice())?;
-    push_absent_by(all, &present, apps)?;
-    Ok(())
+    push_absent_by(all, &present, apps)
 }
 
 // ---- gaps between the numbers of a topic's partitions
@@ -147,23 +146,27 @@ fn is_above(number: i32, n: u64) -> bool
     number > 0 && n < number as u64
 }
 
-fn has_number(numbers: &[i32], n: u64) -> bool
-    ensures { result ≡ list_any (int_eq (pos n)) numbers.now }
-{
-    numbers.iter().any(|number| is_number(*number, n))
-}
-
 fn has_above(numbers: &[i32], n: u64) -> bool
     ensures { result ≡ list_any (int_lt (pos n)) numbers.now }
 {
-    numbers.iter().any(|number| is_above(*number, n))
+    for number in numbers {
+        if is_above(*number, n) {
+            return true;
+        }
+    }
+    false
 }
 
 /// Whether it isn't one of the numbers, but one of them is greater.
 fn is_gap(numbers: &[i32], n: u64) -> bool
     ensures { result ≡ is_gap_of numbers.now n }
 {
-    !has_number(numbers, n) && has_above(numbers, n)
+    for number in numbers {
+        if is_number(*number, n) {
+            return false;
+        }
+    }
+    has_above(numbers, n)
 }
 
 fn least_gap(numbers: &[i32]) -> Option<u64>
@@ -183,17 +186,16 @@ fn is_lesser(end: &End, other: &End) -> bool
     other.topic == end.topic && other.partition < end.partition
 }
 
-fn has_lesser(ends: &[End], end: &End) -> bool
-    ensures { result ≡ list_any (is_lesser_of end.now) ends.now }
-{
-    ends.iter().any(|other| is_lesser(end, other))
-}
-
 /// Whether no partition of its topic has a lesser number.
 fn is_least(ends: &[End], end: &End) -> bool
     ensures { result ≡ is_least_of ends.now end.now }
 {
-    !has_lesser(ends, end)
+    for other in ends {
+        if is_lesser(end, other) {
+            return false;
+        }
+    }
+    true
 }
 
 /// The numbers of a topic's partitions.
@@ -209,6 +211,14 @@ fn numbers_in(alloc: Global, ends: &[End], topic: &Bytes) -> Result<Vec<i32>, Al
     Ok(numbers)
 }
 
+/// The least number of a topic's partitions that is missing below another one.
+fn gap_in(alloc: Global, ends: &[End], topic: &Bytes) -> Result<Option<u64>, AllocError>
+    ensures { IfOk result (λ gap. gap ≡ least_gap_of (numbers_of ends.now topic.now)) }
+{
+    let numbers = numbers_in(alloc, ends, topic)?;
+    Ok(least_gap(numbers.as_slice()))
+}
+
 fn push_gap_of(
     alloc: Global,
     all: &mut Vec<Note>,
@@ -217,14 +227,11 @@ fn push_gap_of(
 ) -> Result<(), AllocError>
     ensures { OnOk result (all.new.items ≡ all.old.items ++ gap_note topic.now (least_gap_of (numbers_of ends.now topic.now))) }
 {
-    let numbers = numbers_in(alloc, ends, topic)?;
-    if let Some(number) = least_gap(numbers.as_slice()) {
-        all.push(Note::Gap {
-            topic: topic.clone()?,
-            number,
-        })?;
-    }
-    Ok(())
+    let Some(number) = gap_in(alloc, ends, topic)? else {
+        return Ok(());
+    };
+    let topic = topic.clone()?;
+    add_note(all, Note::Gap { topic, number })
 }
 
 fn push_gap_at(
@@ -270,8 +277,7 @@ pub(crate) fn push_gaps(
 {
     let topics = used_topics(alloc, apps)?;
     let used = TopicSet::of(alloc, topics.as_slice())?;
-    push_gaps_by(alloc, all, &used, ends)?;
-    Ok(())
+    push_gaps_by(alloc, all, &used, ends)
 }
 
 // ---- internal topics
@@ -283,10 +289,11 @@ fn push_internal(
 ) -> Result<(), AllocError>
     ensures { OnOk result (all.new.items ≡ all.old.items ++ absent_internal (is_found (slice_cmp nat_cmp) present.now) topic) }
 {
-    if !present.has(topic.name().as_bytes()) {
-        all.push(Note::NoInternal(topic))?;
+    if present.has(topic.name().as_bytes()) {
+        Ok(())
+    } else {
+        add_note(all, Note::NoInternal(topic))
     }
-    Ok(())
 }
 
 /// Puts a note at the end for each internal topic that has no partition.
@@ -303,6 +310,5 @@ pub(crate) fn push_internals(
     let topics = topics_of_ends(alloc, ends)?;
     let present = TopicSet::of(alloc, topics.as_slice())?;
     push_internal(all, &present, InternalTopic::ConsumerOffsets)?;
-    push_internal(all, &present, InternalTopic::TransactionState)?;
-    Ok(())
+    push_internal(all, &present, InternalTopic::TransactionState)
 }

@@ -1,11 +1,12 @@
 //! What a note says.
 
-ghost use Rattle.std.specs.Prelude.{◌≡◌};
+ghost use Rattle.std.specs.Prelude.{◌≡◌, ◌++◌, ◌∷◌, [], OnOk};
 ghost use Rattle.eos_notes.specs.ManifestNotes.{internal_name};
 
 use bytes::Bytes;
 use eos_base::PartitionName;
 use eos_evidence::GroupId;
+use std::alloc::AllocError;
 
 /// A sign that an evidence isn't the one that was meant. The variants stand in the order in which notes are listed.
 #[derive(Drop)]
@@ -54,6 +55,15 @@ pub enum Note {
     },
     /// The last commit of the group for the partition names another leader epoch than that of the record before its offset.
     OtherEpoch(OtherRecord),
+}
+
+/// Puts a note at the end. A note has many variants, and the proof goes through all of them where one may come back for want of memory:
+/// so that is here alone.
+pub(crate) fn add_note(all: &mut Vec<Note>, note: Note) -> Result<(), AllocError>
+    ensures { OnOk result (all.new.items ≡ all.old.items ++ note ∷ []) }
+{
+    all.push(note)?;
+    Ok(())
 }
 
 /// A committed offset of a partition, and the leader epochs of the record that the group had read before it and of the one that

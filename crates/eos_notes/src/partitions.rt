@@ -9,7 +9,7 @@ ghost use Rattle.eos_commits.specs.Visible.{visible};
 ghost use Rattle.eos_notes.specs.PartitionTallies.{sources_of as sources_in, roles_by, roles_of};
 ghost use Rattle.eos_notes.specs.TalliesByLogs.{beside, partition_tally as tally_of_partition};
 
-use crate::records::count_visible;
+use crate::groups::{Count, count_part};
 use crate::tally::{Counted, PartitionTally, TopicRoles};
 use bytes::Bytes;
 use eos_base::Listed;
@@ -58,8 +58,12 @@ fn visible_of(log: &Part, fault: &Option<PartitionFault>) -> Result<Option<u64>,
     if fault.is_some() {
         return Ok(None);
     }
-    let count = count_visible(log)?;
-    Ok(Some(count))
+    let none = Count {
+        below: 0,
+        inputs: 0,
+    };
+    let count = count_part(none, log, 0)?;
+    Ok(Some(count.inputs))
 }
 
 fn partition_tally(
@@ -71,6 +75,7 @@ fn partition_tally(
 ) -> Result<PartitionTally, AllocError>
     ensures { IfOk result (λ t. t ≡ tally_of_partition (roles_by (is_found (slice_cmp nat_cmp) sources.now) (is_found (slice_cmp nat_cmp) outputs.now)) (log.now, (fault.now, counted.now))) }
 {
+    let visible_records = visible_of(log, fault)?;
     Ok(PartitionTally {
         topic: log.topic().clone()?,
         partition: log.partition(),
@@ -78,7 +83,7 @@ fn partition_tally(
         end: log.end(),
         batches: counted.batches,
         data_records: log.items().len() as u64,
-        visible_records: visible_of(log, fault)?,
+        visible_records,
         segments: counted.segments,
         bytes: counted.bytes,
     })
@@ -103,8 +108,8 @@ fn tallies_by(
     outputs: &TopicSet<'_>,
     logs: &Logs,
     counted: &[Counted],
-) -> Result<Vec<PartitionTally>, AllocError>
-    ensures { IfOk result (λ all. all.items ≡ map (tally_of_partition (roles_by (is_found (slice_cmp nat_cmp) sources.now) (is_found (slice_cmp nat_cmp) outputs.now)))
+) -> Result<Listed<PartitionTally>, AllocError>
+    ensures { IfOk result (λ all. all ≡ map (tally_of_partition (roles_by (is_found (slice_cmp nat_cmp) sources.now) (is_found (slice_cmp nat_cmp) outputs.now)))
         (beside logs.now.parts.items logs.now.faults.items counted.now)) }
 {
     let parts = logs.parts.as_slice();
@@ -115,7 +120,7 @@ fn tallies_by(
         let tally = partition_tally(sources, outputs, &parts[i], &faults[i], &counted[i])?;
         all.push(tally)?;
     }
-    Ok(all)
+    Ok(Listed::new(all))
 }
 
 /// One for each log, in order.
@@ -136,6 +141,5 @@ pub(crate) fn partition_tallies_of(
     let written = all_written.as_slice();
     let sources = TopicSet::of(alloc, read)?;
     let outputs = TopicSet::of(alloc, written)?;
-    let all = tallies_by(alloc, &sources, &outputs, logs, counted)?;
-    Ok(Listed::new(all))
+    tallies_by(alloc, &sources, &outputs, logs, counted)
 }

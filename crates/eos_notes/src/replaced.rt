@@ -10,9 +10,9 @@ ghost use Rattle.eos_notes.specs.ReplacedNotes.{Committed as CommittedOf, epoch_
 ghost use Rattle.eos_notes.specs.ReplicaNotes.{by_entries};
 ghost use Rattle.eos_notes.specs.steps.Replaced.{renamed, AreCommitted};
 
-use crate::groups::offset_at;
-use crate::note::{Note, OtherRecord};
-use eos_base::{Listed, PartitionName, is_below};
+use crate::groups::{name_of, offset_at};
+use crate::note::{Note, OtherRecord, add_note};
+use eos_base::{Listed, is_below};
 use eos_commits::{CommitRef, CommitTable, committed_offsets};
 use eos_evidence::{App, GroupId};
 use eos_kept::Part;
@@ -76,19 +76,18 @@ fn push_other(
     let Some(found) = epoch_below(entries, last.offset) else {
         return Ok(());
     };
-    if is_other(last.epoch, found) {
-        all.push(Note::OtherEpoch(OtherRecord {
-            group: group.clone()?,
-            offset: last.offset,
-            partition: PartitionName {
-                topic: part.topic().clone()?,
-                partition: part.partition(),
-            },
-            named: last.epoch,
-            found,
-        }))?;
+    if !is_other(last.epoch, found) {
+        return Ok(());
     }
-    Ok(())
+    let partition = name_of(part)?;
+    let other = OtherRecord {
+        group: group.clone()?,
+        offset: last.offset,
+        partition,
+        named: last.epoch,
+        found,
+    };
+    add_note(all, Note::OtherEpoch(other))
 }
 
 /// Puts a note at the end for each of these partitions of which the group's commit names another leader epoch.
@@ -155,8 +154,7 @@ fn push_app(
         offsets: offsets.as_slice(),
         epochs: named.as_slice(),
     };
-    push_each(all, &app.group, logs, committed)?;
-    Ok(())
+    push_each(all, &app.group, logs, committed)
 }
 
 /// Puts a note at the end for each partition of which an application's group has committed an offset under another leader epoch than

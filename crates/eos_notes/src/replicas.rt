@@ -1,16 +1,19 @@
 //! The notes of partitions whose segments are of two replicas, and all notes with those of replicas.
 
-ghost use Rattle.std.specs.Prelude.{◌≡◌, ◌++◌, None, true, false, is_some, map, IfOk, OnOk};
+ghost use Rattle.std.specs.Prelude.{◌≡◌, ◌++◌, List, None, true, false, is_some, map, IfOk, OnOk};
 ghost use Rattle.eos_commits.specs.Faults.{AreInOrder};
+ghost use Rattle.eos_commits.specs.Tables.{IsTableOf};
 ghost use Rattle.eos_fold.specs.Parts.{part_name};
 ghost use Rattle.eos_notes.specs.Notes.{AreAllNotesBy};
+ghost use Rattle.eos_notes.specs.declared.note.Note.{Note as NoteOf};
 ghost use Rattle.eos_notes.specs.ReplicaNotes.{is_fall, falls_at, fall_note, falls};
 ghost use Rattle.eos_kept.specs.Faults.{first_of};
 
-use crate::evidence_notes::{manifest_notes, notes};
-use crate::note::Note;
+use crate::evidence_notes::{push_notes, push_of_manifest};
+use crate::groups::name_of;
+use crate::note::{Note, add_note};
 use crate::replaced::{Led, push_others};
-use eos_base::{Listed, PartitionName};
+use eos_base::Listed;
 use eos_commits::CommitTable;
 use eos_evidence::Spec;
 use eos_kept::{Logs, Part};
@@ -28,7 +31,6 @@ fn is_fall(last: Option<i32>, epoch: i32) -> bool
 }
 
 /// Where the first of these entries begins that has a lesser epoch than the one before.
-#[tactic(auto, using(crate::proofs::EpochFalls::falls_here, crate::proofs::EpochFalls::falls_later, crate::proofs::EpochFalls::falls_never))]
 fn falls_at(entries: &[EpochEntry]) -> Option<u64>
     ensures { result ≡ falls_at None entries.now }
 {
@@ -46,20 +48,14 @@ fn falls_at(entries: &[EpochEntry]) -> Option<u64>
 fn push_fall(all: &mut Vec<Note>, part: &Part, entries: &[EpochEntry]) -> Result<(), AllocError>
     ensures { OnOk result (all.new.items ≡ all.old.items ++ fall_note (part_name part.now) (falls_at None entries.now)) }
 {
-    if let Some(offset) = falls_at(entries) {
-        all.push(Note::EpochFalls {
-            partition: PartitionName {
-                topic: part.topic().clone()?,
-                partition: part.partition(),
-            },
-            offset,
-        })?;
-    }
-    Ok(())
+    let Some(offset) = falls_at(entries) else {
+        return Ok(());
+    };
+    let partition = name_of(part)?;
+    add_note(all, Note::EpochFalls { partition, offset })
 }
 
 /// Puts a note at the end for each of these partitions whose leader epoch falls.
-#[tactic(auto, using(crate::proofs::EpochFalls::falls_on, crate::proofs::EpochFalls::falls_out, crate::proofs::EpochFalls::falls_done))]
 fn push_falls(
     all: &mut Vec<Note>,
     parts: &[Part],
@@ -76,27 +72,55 @@ fn push_falls(
     Ok(())
 }
 
-/// All notes where a log has a fault, of which it isn't known which records are visible: those that the manifest alone shows, and
-/// where leader epochs fall.
-fn notes_of_faulty(alloc: Global, spec: &Spec, logs: Led<'_>) -> Result<Vec<Note>, AllocError>
-    ensures { IfOk result (λ notes. AreAllNotesBy spec.now logs.entry.parts.now logs.entry.epochs.now true notes.items) }
+/// Puts all notes at the end where a log has a fault, of which it isn't known which records are visible: those that the manifest alone
+/// shows, and where leader epochs fall.
+fn push_of_faulty(
+    alloc: Global,
+    all: &mut Vec<Note>,
+    spec: &Spec,
+    logs: Led<'_>,
+) -> Result<(), AllocError>
+    ensures { OnOk result ((notes : List NoteOf) × AreAllNotesBy spec.now logs.entry.parts.now logs.entry.epochs.now true notes × (all.new.items ≡ all.old.items ++ notes)) }
 {
-    let mut all = manifest_notes(alloc, spec)?;
-    push_falls(&mut all, logs.parts, logs.epochs)?;
-    Ok(all)
+    let apps = spec.apps().as_slice();
+    let ends = spec.ends().as_slice();
+    push_of_manifest(alloc, all, apps, ends)?;
+    push_falls(all, logs.parts, logs.epochs)?;
+    Ok(())
 }
 
-/// All notes where no log has a fault. The commits are tabled once for all of them.
-fn notes_of_sound(alloc: Global, spec: &Spec, logs: Led<'_>) -> Result<Vec<Note>, AllocError>
+/// Puts all notes at the end where no log has a fault, by the commits of the applications' groups.
+fn push_by_commits(
+    alloc: Global,
+    all: &mut Vec<Note>,
+    spec: &Spec,
+    logs: Led<'_>,
+    table: &CommitTable<'_>,
+) -> Result<(), AllocError>
+    requires { IsTableOf spec.now.apps logs.parts.now table.now }
     ensures { AreInOrder logs.entry.parts.now
-        → IfOk result (λ notes. AreAllNotesBy spec.now logs.entry.parts.now logs.entry.epochs.now false notes.items) }
+        → OnOk result ((notes : List NoteOf) × AreAllNotesBy spec.now logs.entry.parts.now logs.entry.epochs.now false notes × (all.new.items ≡ all.old.items ++ notes)) }
+{
+    let apps = spec.apps().as_slice();
+    push_notes(alloc, all, spec, table, logs.parts)?;
+    push_falls(all, logs.parts, logs.epochs)?;
+    push_others(alloc, all, apps, logs, table)?;
+    Ok(())
+}
+
+/// Puts all notes at the end where no log has a fault. The commits are tabled once for all of them.
+fn push_of_sound(
+    alloc: Global,
+    all: &mut Vec<Note>,
+    spec: &Spec,
+    logs: Led<'_>,
+) -> Result<(), AllocError>
+    ensures { AreInOrder logs.entry.parts.now
+        → OnOk result ((notes : List NoteOf) × AreAllNotesBy spec.now logs.entry.parts.now logs.entry.epochs.now false notes × (all.new.items ≡ all.old.items ++ notes)) }
 {
     let apps = spec.apps().as_slice();
     let table = CommitTable::of(alloc, apps, logs.parts)?;
-    let mut all = notes(alloc, spec, &table, logs.parts)?;
-    push_falls(&mut all, logs.parts, logs.epochs)?;
-    push_others(alloc, &mut all, apps, logs, &table)?;
-    Ok(all)
+    push_by_commits(alloc, all, spec, logs, &table)
 }
 
 /// The notes of an evidence with this manifest and these logs, whole ones or what is kept of them: signs that it isn't the one that
@@ -120,9 +144,11 @@ pub fn all_notes(
         parts: logs.parts.as_slice(),
         epochs,
     };
+    let mut all = Vec::new(alloc);
     if logs.first_fault().is_some() {
-        notes_of_faulty(alloc, spec, led)
-    } else {
-        notes_of_sound(alloc, spec, led)
+        push_of_faulty(alloc, &mut all, spec, led)?;
+        return Ok(all);
     }
+    push_of_sound(alloc, &mut all, spec, led)?;
+    Ok(all)
 }

@@ -30,8 +30,7 @@ fn push_line(alloc: Global, out: &mut String, note: &Note) -> Result<(), AllocEr
 {
     push_text(out, "eoscheck: note: ")?;
     push_note(alloc, out, note)?;
-    push_text(out, "\n")?;
-    Ok(())
+    push_text(out, "\n")
 }
 
 fn push_note(alloc: Global, out: &mut String, note: &Note) -> Result<(), AllocError>
@@ -74,8 +73,7 @@ fn push_no_application(out: &mut String) -> Result<(), AllocError>
     push_text(
         out,
         "no application is named: outputs and committed offsets aren't judged",
-    )?;
-    Ok(())
+    )
 }
 
 fn push_unlisted(
@@ -89,8 +87,7 @@ fn push_unlisted(
     push_escaped(alloc, out, "", partition.topic.as_slice())?;
     push_value(out, "-", &partition.partition)?;
     push_escaped(alloc, out, " isn't in ends, but group ", group.as_bytes())?;
-    push_text(out, " committed an offset of it")?;
-    Ok(())
+    push_text(out, " committed an offset of it")
 }
 
 /// What a group has committed of a partition that ends before.
@@ -111,8 +108,7 @@ fn push_past_end(alloc: Global, out: &mut String, past: &PastEnd<'_>) -> Result<
     push_value(out, " committed offset ", &past.offset)?;
     push_escaped(alloc, out, " of ", past.partition.topic.as_slice())?;
     push_value(out, "-", &past.partition.partition)?;
-    push_value(out, ", past its end ", &past.end)?;
-    Ok(())
+    push_value(out, ", past its end ", &past.end)
 }
 
 fn push_no_partition(
@@ -125,8 +121,7 @@ fn push_no_partition(
 {
     push_escaped(alloc, out, "topic ", topic.as_slice())?;
     push_escaped(alloc, out, " of group ", group.as_bytes())?;
-    push_text(out, " has no partition in ends")?;
-    Ok(())
+    push_text(out, " has no partition in ends")
 }
 
 fn push_gap(alloc: Global, out: &mut String, topic: &Bytes, number: &u64) -> Result<(), AllocError>
@@ -134,8 +129,7 @@ fn push_gap(alloc: Global, out: &mut String, topic: &Bytes, number: &u64) -> Res
 {
     push_escaped(alloc, out, "topic ", topic.as_slice())?;
     push_value(out, " has no partition ", number)?;
-    push_text(out, " in ends, but one of a greater number")?;
-    Ok(())
+    push_text(out, " in ends, but one of a greater number")
 }
 
 fn push_nothing_committed(
@@ -146,16 +140,14 @@ fn push_nothing_committed(
     ensures { OnOk result (Adds (string_bytes out.old) (string_bytes out.new) (note_text (Note.NothingCommitted group.now))) }
 {
     push_escaped(alloc, out, "group ", group.as_bytes())?;
-    push_text(out, " committed no offset of its sources")?;
-    Ok(())
+    push_text(out, " committed no offset of its sources")
 }
 
 fn push_no_internal(out: &mut String, topic: InternalTopic) -> Result<(), AllocError>
     ensures { OnOk result (Adds (string_bytes out.old) (string_bytes out.new) (note_text (Note.NoInternal topic))) }
 {
     push_value(out, "no partition of ", &topic.name())?;
-    push_text(out, " is in ends")?;
-    Ok(())
+    push_text(out, " is in ends")
 }
 
 fn push_behind(
@@ -170,8 +162,7 @@ fn push_behind(
     push_escaped(alloc, out, "group ", group.as_bytes())?;
     push_value(out, " is behind: ", below)?;
     push_value(out, " of ", inputs)?;
-    push_text(out, " visible inputs are below its committed offsets")?;
-    Ok(())
+    push_text(out, " visible inputs are below its committed offsets")
 }
 
 fn push_fall(
@@ -189,8 +180,7 @@ fn push_fall(
         partition.topic.as_slice(),
     )?;
     push_value(out, "-", &partition.partition)?;
-    push_value(out, ":", offset)?;
-    Ok(())
+    push_value(out, ":", offset)
 }
 
 fn push_other_epoch(alloc: Global, out: &mut String, other: &OtherRecord) -> Result<(), AllocError>
@@ -201,6 +191,5 @@ fn push_other_epoch(alloc: Global, out: &mut String, other: &OtherRecord) -> Res
     push_escaped(alloc, out, " of ", other.partition.topic.as_slice())?;
     push_value(out, "-", &other.partition.partition)?;
     push_value(out, " under leader epoch ", &other.named)?;
-    push_value(out, ", but the record before it is of epoch ", &other.found)?;
-    Ok(())
+    push_value(out, ", but the record before it is of epoch ", &other.found)
 }

@@ -9,9 +9,10 @@ ghost use Rattle.eos_commits.specs.Tables.{IsTableOf};
 ghost use Rattle.eos_evidence.specs.declared.ends.End.{End as EndOf};
 ghost use Rattle.eos_fold.specs.Parts.{PartLog};
 ghost use Rattle.eos_notes.specs.CommitNotes.{end_name, unlisted_note, AreUnlisted, AreUnlistedNotes};
-ghost use Rattle.eos_notes.specs.steps.Unlisted.{plain_name, by_name, commit_name, is_unlisted, AreEachOnce};
+ghost use Rattle.eos_notes.specs.declared.note.Note.{Note as NoteOf};
+ghost use Rattle.eos_notes.specs.steps.Unlisted.{plain_name, by_name, commit_name, is_unlisted};
 
-use crate::note::Note;
+use crate::note::{Note, add_note};
 use bytes::Bytes;
 use eos_base::{PartitionName, distinct_in_order, holds, in_order};
 use eos_commits::{CommitRef, CommitTable};
@@ -75,22 +76,6 @@ fn unlisted_names<'a>(
     Ok(names)
 }
 
-/// Each name once, in order.
-fn each_once<'a>(names: Vec<NameRef<'a>>) -> Vec<NameRef<'a>>
-    ensures { AreEachOnce (map plain_name names.entry.items) (map plain_name result.items) }
-{
-    distinct_in_order(names)
-}
-
-fn own_name(alloc: Global, name: &NameRef<'_>) -> Result<PartitionName, AllocError>
-    ensures { IfOk result (λ n. n ≡ plain_name name.now) }
-{
-    Ok(PartitionName {
-        topic: Bytes::copy_from_slice(alloc, name.topic)?,
-        partition: name.partition,
-    })
-}
-
 fn push_note(
     alloc: Global,
     all: &mut Vec<Note>,
@@ -99,12 +84,12 @@ fn push_note(
 ) -> Result<(), AllocError>
     ensures { OnOk result (all.new.items ≡ all.old.items ++ unlisted_note group.now (plain_name name.now) ∷ []) }
 {
-    let partition = own_name(alloc, name)?;
-    all.push(Note::Unlisted {
-        partition,
-        group: group.clone()?,
-    })?;
-    Ok(())
+    let partition = PartitionName {
+        topic: Bytes::copy_from_slice(alloc, name.topic)?,
+        partition: name.partition,
+    };
+    let group = group.clone()?;
+    add_note(all, Note::Unlisted { partition, group })
 }
 
 fn push_notes(
@@ -134,45 +119,45 @@ fn push_group(
         → (names : List Name) × AreUnlisted ends (map plain_commit commits.now) names × (all.new.items ≡ all.old.items ++ map (unlisted_note group.now) names)) }
 {
     let found = unlisted_names(alloc, listed, commits)?;
-    let names = each_once(found);
-    push_notes(alloc, all, group, names.as_slice())?;
-    Ok(())
+    let names = distinct_in_order(found);
+    push_notes(alloc, all, group, names.as_slice())
 }
 
-/// The notes of the applications, by the names that have a declared end, in order.
-fn notes_by(
+/// Puts the notes of the applications at the end, by the names that have a declared end, in order.
+fn push_by(
     alloc: Global,
+    all: &mut Vec<Note>,
     apps: &[App],
     listed: &[NameRef<'_>],
     table: &CommitTable<'_>,
-) -> Result<Vec<Note>, AllocError>
+) -> Result<(), AllocError>
     requires { IsSorted by_name listed.now }
-    ensures { IfOk result (λ all. (logs : List PartLog) (ends : List EndOf) → IsTableOf apps.now logs table.now → IsPermutation (map end_name ends) (map plain_name listed.now)
-        → AreUnlistedNotes ends logs apps.now all.items) }
+    ensures { OnOk result ((logs : List PartLog) (ends : List EndOf) → IsTableOf apps.now logs table.now → IsPermutation (map end_name ends) (map plain_name listed.now)
+        → (notes : List NoteOf) × AreUnlistedNotes ends logs apps.now notes × (all.new.items ≡ all.old.items ++ notes)) }
 {
-    let mut all = Vec::new(alloc);
     for app in apps {
         let commits = table.commits_of(alloc, app)?;
-        push_group(alloc, &mut all, &app.group, listed, commits.as_slice())?;
+        push_group(alloc, all, &app.group, listed, commits.as_slice())?;
     }
-    Ok(all)
+    Ok(())
 }
 
-/// A note for each partition of a source topic that has no declared end, but of which the application's group has committed an
+/// Puts a note at the end for each partition of a source topic that has no declared end, but of which the application's group has committed an
 /// offset, by the commits of the applications' groups.
 ///
 /// # Errors
 /// Only want of memory.
-pub(crate) fn unlisted_notes(
+pub(crate) fn push_unlisted(
     alloc: Global,
+    all: &mut Vec<Note>,
     apps: &[App],
     ends: &[End],
     table: &CommitTable<'_>,
-) -> Result<Vec<Note>, AllocError>
-    ensures { IfOk result (λ all. (logs : List PartLog) → IsTableOf apps.now logs table.now → AreUnlistedNotes ends.now logs apps.now all.items) }
+) -> Result<(), AllocError>
+    ensures { OnOk result ((logs : List PartLog) → IsTableOf apps.now logs table.now
+        → (notes : List NoteOf) × AreUnlistedNotes ends.now logs apps.now notes × (all.new.items ≡ all.old.items ++ notes)) }
 {
     let names = listed_names(alloc, ends)?;
     let listed = in_order(names);
-    let all = notes_by(alloc, apps, listed.as_slice(), table)?;
-    Ok(all)
+    push_by(alloc, all, apps, listed.as_slice(), table)
 }

@@ -1,4 +1,5 @@
 use Rattle.std.proofs.Common.{subst, ap, map, ◌∙◌, IsPermutation}
+use Rattle.std.proofs.lemmas.Result.{IfOk-weaker}
 use Rattle.eos_commits.specs.Commits.{Topic}
 use Rattle.eos_notes.specs.TalliesByLogs.{beside, partition_tally}
 use Rattle.eos_notes.specs.declared.tally.TopicRoles.{TopicRoles}
@@ -11,4 +12,4 @@ returns c =
     let outputs = subst (λ topics. IsPermutation topics c.in_ok-outputs.outputs) (c.as_slice-written.ensures.value ∙ c.in_ok-all_written.ensures) c.in_ok-outputs.ensures in
     let roles = same_roles c.args.apps.now c.in_ok-sources.sources c.in_ok-outputs.outputs sources outputs in
     let rows = beside c.args.logs.now.parts.items c.args.logs.now.faults.items c.args.counted.now in
-    c.new.ensures ∙ (c.in_ok-all.ensures ∙ ap (λ (r : Topic → TopicRoles). map (partition_tally r) rows) roles)
+    IfOk-weaker c.tallies_by.result _ _ (λ all is. is ∙ ap (λ (r : Topic → TopicRoles). map (partition_tally r) rows) roles) c.tallies_by.ensures

@@ -1,4 +1,4 @@
-use Rattle.std.proofs.Common.{ℕ, ◌<◌, subst}
+use Rattle.std.proofs.Common.{ℕ, ◌<◌, ◌∙◌, subst}
 use Rattle.std.specs.Ordering.{nat_cmp}
 use Rattle.std.specs.Cmp.Lexicographic.{slice_cmp}
 use Rattle.eos_base.specs.Members.{is_found}
@@ -14,5 +14,6 @@ loop-i-preserved c =
 
 pub returns : goal.returns
 returns c =
-    rows_done (roles_by (is_found (slice_cmp nat_cmp) c.args.sources.now) (is_found (slice_cmp nat_cmp) c.args.outputs.now)) c.as_slice-parts.result.now c.args.logs.now.parts.items c.as_slice-faults.result.now c.args.logs.now.faults.items
+    c.new.ensures
+    ∙ rows_done (roles_by (is_found (slice_cmp nat_cmp) c.args.sources.now) (is_found (slice_cmp nat_cmp) c.args.outputs.now)) c.as_slice-parts.result.now c.args.logs.now.parts.items c.as_slice-faults.result.now c.args.logs.now.faults.items
     c.args.counted.now c.loop-i.all.items c.loop-i.i c.rows_of-rows.result c.rows_of-rows.ensures.rows c.loop-i-test.false c.as_slice-parts.ensures.value c.as_slice-faults.ensures.value c.loop-i.invariant

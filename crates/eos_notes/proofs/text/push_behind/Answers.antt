@@ -1,9 +1,9 @@
 use Rattle.eos_notes.specs.Texts.{note_text}
-use Rattle.eos_text.proofs.Appended.{then}
+use Rattle.eos_notes.proofs.LastCalls.{last}
 use Rattle.eos_notes.proofs.text.push_behind.Goals as goal
 
 pub returns : goal.returns
 unfolding note_text
 returns c =
     let group = simp c.as_bytes.ensures at c.in_ok-push_escaped.ensures in
-    then group (then c.in_ok-push_value.ensures (then c.in_ok-push_value-2.ensures c.in_ok-push_text.ensures))
+    last _ _ _ group (last _ _ _ c.in_ok-push_value.ensures (last _ _ _ c.in_ok-push_value-2.ensures c.push_text.ensures))

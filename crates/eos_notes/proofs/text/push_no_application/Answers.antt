@@ -3,4 +3,4 @@ use Rattle.eos_notes.proofs.text.push_no_application.Goals as goal
 
 pub returns : goal.returns
 unfolding note_text
-returns c = c.in_ok-push_text.ensures
+returns c = c.push_text.ensures

@@ -1,5 +1,5 @@
 use Rattle.eos_notes.specs.Texts.{note_text}
-use Rattle.eos_text.proofs.Appended.{then}
+use Rattle.eos_notes.proofs.LastCalls.{last}
 use Rattle.eos_notes.proofs.text.push_unlisted.Goals as goal
 
 pub returns : goal.returns
@@ -7,4 +7,4 @@ unfolding note_text
 returns c =
     let topic = simp c.as_slice.ensures at c.in_ok-push_escaped.ensures in
     let group = simp c.as_bytes.ensures at c.in_ok-push_escaped-2.ensures in
-    then topic (then c.in_ok-push_value.ensures (then group c.in_ok-push_text.ensures))
+    last _ _ _ topic (last _ _ _ c.in_ok-push_value.ensures (last _ _ _ group c.push_text.ensures))
