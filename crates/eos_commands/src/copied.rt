@@ -91,8 +91,7 @@ impl<'a, D: Disk> Logs<'a, D> {
     {
         let end = as_end(name)?;
         let bases = self.bases(&end)?;
-        self.insert_segments(&end, bases.as_slice(), names)?;
-        Ok(())
+        self.insert_segments(&end, bases.as_slice(), names)
     }
 
     /// Adds the partitions that the records of these segments list.
@@ -152,7 +151,9 @@ impl<'a, D: Disk> Logs<'a, D> {
     {
         let mut end = as_end(name)?;
         let bases = self.bases(&end)?;
-        let Ok(offset) = i64::try_from(self.end_of_front(&end, bases.as_slice())?) else {
+        let front = self.end_of_front(&end, bases.as_slice());
+        drop(bases);
+        let Ok(offset) = i64::try_from(front?) else {
             return Err(InitFault::Limit);
         };
         end.end = offset;
@@ -170,7 +171,9 @@ impl<'a, D: Disk> Logs<'a, D> {
                 return Ok(next);
             }
             let bytes = self.segment(end, *base)?;
-            let (after, whole) = front_end(self.alloc, &bytes, next)?;
+            let front = front_end(self.alloc, &bytes, next);
+            drop(bytes);
+            let (after, whole) = front?;
             if !whole {
                 return Ok(after);
             }

@@ -15,7 +15,11 @@ pub fn fold_partitions(rt: &HostRuntime, words: &Fold<'_>) -> u8 {
     };
     match fold_folders(rt.alloc(), &mut HostDisk { rt }, given) {
         Ok(folded) => say(rt, folded),
-        Err(fault) => refuse(rt, words, &fault),
+        Err(fault) => {
+            let status = refuse(rt, words, &fault);
+            drop(fault);
+            status
+        }
     }
 }
 

@@ -80,7 +80,6 @@ impl Folded {
 /// # Errors
 /// The first of what stands against it: the manifest, then the folders in order, then their segments in order. Before the first
 /// segment is read nothing was written; after that the folds of those before the one that is refused.
-#[tactic(auto, using(crate::proofs::FoldsMore::nothing_folded))]
 pub fn fold_folders<'a, D: DiskMut>(
     alloc: Global,
     disk: &mut D,
@@ -99,7 +98,6 @@ pub fn fold_folders<'a, D: DiskMut>(
 }
 
 /// Folds each segment that lies in these folders, by the parts of their manifest.
-#[tactic(auto, using(crate::proofs::FoldsMore::nothing_folded))]
 fn put_by<'a, D: DiskMut>(
     alloc: Global,
     disk: &mut D,
@@ -124,7 +122,6 @@ fn put_by<'a, D: DiskMut>(
 }
 
 /// Folds the segments of these folders, one folder after the other.
-#[tactic(auto, using(crate::proofs::FoldsMore::none_folded))]
 fn fold_all<'a, D: DiskMut>(
     alloc: Global,
     disk: &mut D,
@@ -171,7 +168,6 @@ fn fold_folder<'a, D: DiskMut>(
 }
 
 /// Folds the segment of a partition's folder with this first offset, and gives the number of its bytes.
-#[tactic(auto, using(crate::proofs::FoldsMore::left_nothing))]
 fn fold_segment<'a, D: DiskMut>(
     alloc: Global,
     disk: &mut D,
@@ -185,7 +181,10 @@ fn fold_segment<'a, D: DiskMut>(
 {
     let (text, size) = encoded(alloc, &*disk, folder, base, asked)?;
     let name = folder.segment(base)?;
-    write_fold(alloc, disk, asked.out, &name, text.as_slice())?;
+    let put = write_fold(alloc, disk, asked.out, &name, text.as_slice());
+    drop(name);
+    drop(text);
+    put?;
     Ok(size)
 }
 
@@ -209,10 +208,10 @@ pub(crate) fn text_of(alloc: Global, fold: FoldFile) -> Result<(Vec<u8>, u64), A
     ensures bytes { IfOk result (λ made. made.0.items ≡ fold_text fold) }
     ensures reads { IsRight fold → IfOk result (λ made. fold_read_of made.0.items ≡ Ok fold) }
 {
-    match encode_fold(alloc, &fold) {
-        Ok(text) => Ok((text, fold.bytes)),
-        Err(fault) => Err(fault),
-    }
+    let text = encode_fold(alloc, &fold);
+    let bytes = fold.bytes;
+    drop(fold);
+    Ok((text?, bytes))
 }
 
 /// Why reading this file ended so.
@@ -243,7 +242,9 @@ fn read_fold<'a, D: Disk>(
     let path = folder.log_path(alloc, base)?;
     let named = open_file(alloc, disk, path)?;
     let NamedFile { path, mut file } = named;
-    match fold_of(alloc, asked.wanted, asked.topics, &name, &mut file) {
+    let fold = fold_of(alloc, asked.wanted, asked.topics, &name, &mut file);
+    drop(name);
+    match fold {
         Ok(fold) => Ok(fold),
         Err(why) => Err(FoldingFault::Unread(refusal_of(alloc, path, &mut file, why))),
     }

@@ -37,8 +37,14 @@ pub(crate) fn read_apps(alloc: Global, words: &[&str]) -> Result<Apps, InitFault
 {
     let apps = apps_of(alloc, words)?;
     match Spec::new(alloc, apps.clone()?, Listed::new(Vec::new(alloc))) {
-        Ok(_) => Ok(apps),
-        Err(fault) => Err(InitFault::Apps(fault)),
+        Ok(spec) => {
+            drop(spec);
+            Ok(apps)
+        }
+        Err(fault) => {
+            drop(apps);
+            Err(InitFault::Apps(fault))
+        }
     }
 }
 

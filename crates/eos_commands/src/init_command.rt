@@ -30,10 +30,14 @@ pub fn init_folder(rt: &HostRuntime, words: &Init<'_>) -> u8 {
     };
     match init(rt.alloc(), &mut HostDisk { rt }, given, &mut rt.reader()) {
         Ok(made) => tell(rt, &made),
-        Err(fault) => match explain(rt, words, &fault) {
-            Ok(status) => status,
-            Err(_) => end(rt, Ending::OutOfMemory),
-        },
+        Err(fault) => {
+            let told = explain(rt, words, &fault);
+            drop(fault);
+            match told {
+                Ok(status) => status,
+                Err(_) => end(rt, Ending::OutOfMemory),
+            }
+        }
     }
 }
 

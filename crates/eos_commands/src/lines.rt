@@ -1,15 +1,11 @@
 //! What the lines of ends say beside the ends, and what is told of it.
 
-ghost use Rattle.std.specs.Prelude.{◌≡◌, IfErr};
-ghost use Rattle.eos_commands.specs.declared.init_fault.InitFault.TheVariants.{OutOfMemory};
-
-use crate::init_fault::InitFault;
 use crate::note::{Note, OfLines};
 use bytes::Bytes;
 use eos_base::{PartitionName, Sorted};
 use eos_evidence::{App, End};
 use eos_manifest::{coordinator_of, partitions_of};
-use std::alloc::Global;
+use std::alloc::{AllocError, Global};
 use std::collections::BTreeSet;
 
 const OFFSETS: &str = "__consumer_offsets";
@@ -40,22 +36,31 @@ pub(crate) fn push_of_lines(
     file: &str,
     apps: &[App],
     said: &Said,
-) -> Result<(), InitFault>
-    ensures { IfErr result (λ why. why ≡ OutOfMemory) }
-{
+) -> Result<(), AllocError> {
     if said.ends.is_empty() {
         return push_of_file(alloc, notes, file, OfLines::None);
     }
     if said.has_returns {
         push_of_file(alloc, notes, file, OfLines::Returns)?;
     }
-    let topics = topics_of(alloc, apps)?;
+    let mut topics = BTreeSet::new(alloc);
+    insert_topics(alloc, apps, &mut topics)?;
     for topic in &topics {
-        if !said.ends.iter().any(|end| end.topic == *topic) {
+        if !has_topic(said.ends.as_slice(), topic) {
             push_of_file(alloc, notes, file, OfLines::Lacks(topic.clone()?))?;
         }
     }
     Ok(())
+}
+
+/// Whether one of these ends is of a partition of the topic.
+fn has_topic(ends: &[End], topic: &Bytes) -> bool {
+    for end in ends {
+        if end.topic == *topic {
+            return true;
+        }
+    }
+    false
 }
 
 fn push_of_file(
@@ -63,19 +68,18 @@ fn push_of_file(
     notes: &mut Vec<Note>,
     file: &str,
     what: OfLines,
-) -> Result<(), InitFault>
-    ensures { IfErr result (λ why. why ≡ OutOfMemory) }
-{
+) -> Result<(), AllocError> {
     let file = String::from_str(alloc, file)?;
     notes.push(Note::Lines(file, what))?;
     Ok(())
 }
 
-/// The topics that applications name, and Kafka's own two, each once, in order.
-fn topics_of(alloc: Global, apps: &[App]) -> Result<BTreeSet<Bytes>, InitFault>
-    ensures { IfErr result (λ why. why ≡ OutOfMemory) }
-{
-    let mut topics = BTreeSet::new(alloc);
+/// Adds the topics that applications name, and Kafka's own two.
+fn insert_topics(
+    alloc: Global,
+    apps: &[App],
+    topics: &mut BTreeSet<Bytes>,
+) -> Result<(), AllocError> {
     topics.insert(Bytes::copy_from_slice(alloc, OFFSETS.as_bytes())?)?;
     topics.insert(Bytes::copy_from_slice(alloc, STATES.as_bytes())?)?;
     for app in apps {
@@ -86,7 +90,7 @@ fn topics_of(alloc: Global, apps: &[App]) -> Result<BTreeSet<Bytes>, InitFault>
             topics.insert(topic.clone()?)?;
         }
     }
-    Ok(topics)
+    Ok(())
 }
 
 /// Adds for each group to which partition of the offsets log it commits, where the ends are those of all of them.
@@ -96,9 +100,7 @@ pub(crate) fn push_of_groups(
     apps: &[App],
     said: &Said,
     folders: &Sorted<PartitionName>,
-) -> Result<(), InitFault>
-    ensures { IfErr result (λ why. why ≡ OutOfMemory) }
-{
+) -> Result<(), AllocError> {
     let Some(partitions) = partitions_of(said.ends.as_slice(), OFFSETS.as_bytes()) else {
         return Ok(());
     };

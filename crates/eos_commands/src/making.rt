@@ -1,14 +1,17 @@
 //! The manifest of a folder of copied logs, made of what the words give and what is in the folder.
 
-ghost use Rattle.std.specs.Prelude.{◌≡◌, ℕ, List, None, Ok, Err, IfOk, IfErr, OnOk, OnErr, string_bytes};
+ghost use Rattle.std.specs.Prelude.{◌≡◌, ◌⊎◌, ℕ, List, None, Ok, Err, IfOk, IfErr, OnOk, OnErr, string_bytes};
 ghost use Rattle.std.specs.Io.KnownBytes.{Appends};
+ghost use Rattle.eos_base.specs.Members.{Has};
 ghost use Rattle.eos_disk.specs.Putting.{IsLeft};
 ghost use Rattle.eos_evidence.specs.Manifest.{spec_said_by};
 ghost use Rattle.eos_evidence.specs.SpecFields.{SpecFields, accepted};
+ghost use Rattle.eos_evidence.specs.declared.ends.End.{End as AnEnd};
 ghost use Rattle.eos_manifest.specs.Manifests.{first_without, parts_for};
 ghost use Rattle.eos_commands.specs.Copies.{AreFoldersAt, AreRequired};
-ghost use Rattle.eos_disk.specs.Paths.{manifest_path};
-ghost use Rattle.eos_commands.specs.InitRefusals.{RefusesMaking, RefusesInit};
+ghost use Rattle.eos_disk.specs.Paths.{manifest_path, path_of_end};
+ghost use Rattle.eos_commands.specs.InitRefusals.{RefusesBy, RefusesCopy, RefusesMaking, RefusesInit};
+ghost use Rattle.eos_commands.specs.declared.init_fault.InitFault.TheVariants.{OutOfMemory};
 ghost use Rattle.eos_commands.specs.steps.Refused.{RefusesThere, RefusesManifest};
 ghost use Rattle.eos_commands.specs.Making.{IsManifestFor, IsManifestPlaced, wrote_line};
 ghost use Rattle.eos_text.specs.Writing.{WritesFront};
@@ -33,13 +36,6 @@ pub struct Made {
     pub line: String,
     /// What is to be told beside, each without its line feed.
     pub notes: Vec<String>,
-}
-
-/// A manifest, before it is written.
-#[derive(Drop)]
-struct Manifest {
-    spec: Spec,
-    notes: Vec<String>,
 }
 
 /// The partitions of a folder of copied logs.
@@ -88,22 +84,6 @@ fn text_of<D: Disk, R: Read>(
         × (spec_said_by made.0.items ≡ Ok spec) × (string_bytes made.1.line ≡ wrote_line spec)) }
     ensures refused { IfErr result (RefusesMaking given.entry (D.holds disk.now) (R.remaining input.old) (R.remaining input.new)) }
 {
-    let Manifest { spec, notes } = manifest_of(alloc, disk, given, input)?;
-    let line = line_of(alloc, &spec)?;
-    let text = spec_text(alloc, &spec)?;
-    Ok((text, Made { line, notes }))
-}
-
-/// The manifest that is asked for, and what is to be told beside.
-fn manifest_of<D: Disk, R: Read>(
-    alloc: Global,
-    disk: &D,
-    given: Given<'_>,
-    input: &mut R,
-) -> Result<Manifest, InitFault>
-    ensures ok { IfOk result (λ manifest. IsManifestFor given.entry (D.holds disk.now) (R.remaining input.old) (R.remaining input.new) manifest.spec) }
-    ensures refused { IfErr result (RefusesMaking given.entry (D.holds disk.now) (R.remaining input.old) (R.remaining input.new)) }
-{
     let apps = read_apps(alloc, given.apps)?;
     let logs = Logs {
         alloc,
@@ -113,7 +93,7 @@ fn manifest_of<D: Disk, R: Read>(
     let there = there_of(&logs, apps.as_slice())?;
     let required = there.required.as_slice();
     let said = ends_given(&logs, given.ends, required, &there.folders, input)?;
-    manifest_by(&logs, given.ends, apps, &there, &said)
+    text_by(&logs, given.ends, apps, &there, &said)
 }
 
 /// The partitions that have a folder, and those that have to have an end.
@@ -127,20 +107,39 @@ fn there_of<D: Disk>(logs: &Logs<'_, D>, apps: &[App]) -> Result<There, InitFaul
     Ok(There { folders, required })
 }
 
-/// The manifest of these applications, with the ends that were said, and what is to be told beside.
-fn manifest_by<D: Disk>(
+/// The text of the manifest of these applications, with the ends that were said, and what is said of it.
+fn text_by<D: Disk>(
     logs: &Logs<'_, D>,
     file: Option<&str>,
     apps: Apps,
     there: &There,
     said: &Said,
-) -> Result<Manifest, InitFault>
-    ensures ok { IfOk result (λ manifest. (first_without said.now.ends.items there.now.required ≡ None) × (accepted (parts_for apps there.now.required said.now.ends.items) ≡ Ok manifest.spec)) }
+) -> Result<(Vec<u8>, Made), InitFault>
+    ensures ok { IfOk result (λ made. (spec : SpecFields) × (first_without said.now.ends.items there.now.required ≡ None) × (accepted (parts_for apps there.now.required said.now.ends.items) ≡ Ok spec)
+        × (spec_said_by made.0.items ≡ Ok spec) × (string_bytes made.1.line ≡ wrote_line spec)) }
     ensures refused { IfErr result (RefusesManifest (D.holds logs.now.disk.now) logs.now.folder.now apps there.now.required said.now.ends.items) }
 {
     let spec = spec_of(logs.alloc, apps, &there.required, said.ends.as_slice())?;
-    let notes = notes_on(logs, file, &spec, &there.folders, said)?;
-    Ok(Manifest { spec, notes })
+    let made = text_with(logs, file, &spec, there, said);
+    drop(spec);
+    made
+}
+
+/// The text of this manifest, and what is said of it.
+fn text_with<D: Disk>(
+    logs: &Logs<'_, D>,
+    file: Option<&str>,
+    spec: &Spec,
+    there: &There,
+    said: &Said,
+) -> Result<(Vec<u8>, Made), InitFault>
+    ensures ok { IfOk result (λ made. (spec_said_by made.0.items ≡ Ok spec.now) × (string_bytes made.1.line ≡ wrote_line spec.now)) }
+    ensures refused { IfErr result (λ why. (why ≡ OutOfMemory) ⊎ ((e : AnEnd) × Has spec.now.ends e × RefusesBy (RefusesCopy (D.holds logs.now.disk.now) (path_of_end logs.now.folder.now e)) why)) }
+{
+    let notes = notes_on(logs, file, spec, &there.folders, said)?;
+    let line = line_of(logs.alloc, spec)?;
+    let text = spec_text(logs.alloc, spec)?;
+    Ok((text, Made { line, notes }))
 }
 
 fn line_of(alloc: Global, spec: &Spec) -> Result<String, AllocError>

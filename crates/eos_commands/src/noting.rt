@@ -15,6 +15,17 @@ use eos_base::{PartitionName, Sorted};
 use eos_disk::Disk;
 use eos_evidence::{End, Spec};
 use eos_manifest::is_compressed_at_head;
+use std::alloc::AllocError;
+
+/// What is seen of a partition, of which a note may be told.
+#[derive(Drop)]
+enum Seen {
+    Nothing,
+    NoFolder,
+    /// Its first segment has this name, which isn't 0.
+    FirstSegment(i64),
+    Compressed,
+}
 
 /// What is told where the ends are those of this file, or of the copied logs.
 pub(crate) fn notes_on<D: Disk>(
@@ -33,9 +44,7 @@ pub(crate) fn notes_on<D: Disk>(
         None => notes.push(Note::EndsOfCopies)?,
     }
     for end in spec.ends().as_slice() {
-        if let Some(note) = note_on(logs, end, folders)? {
-            notes.push(note)?;
-        }
+        push_note(logs, &mut notes, end, folders)?;
     }
     if file.is_some() {
         push_of_groups(logs.alloc, &mut notes, apps.as_slice(), said, folders)?;
@@ -43,36 +52,63 @@ pub(crate) fn notes_on<D: Disk>(
     Ok(note_texts(logs.alloc, notes.as_slice())?)
 }
 
-/// What `check` will refuse of a partition, as far as its folder and the head of its first segment show.
-fn note_on<D: Disk>(
+/// Adds what `check` will refuse of a partition, as far as its folder and the head of its first segment show.
+fn push_note<D: Disk>(
     logs: &Logs<'_, D>,
+    notes: &mut Vec<Note>,
     end: &End,
     folders: &Sorted<PartitionName>,
-) -> Result<Option<Note>, InitFault>
+) -> Result<(), InitFault>
     ensures { IfErr result (RefusesBy (RefusesCopy (D.holds logs.now.disk.now) (path_of_end logs.now.folder.now end.now))) }
 {
     let name = PartitionName {
         topic: end.topic.clone()?,
         partition: end.partition,
     };
-    if !folders.holds(&name) {
+    match seen_of(logs, end, folders.holds(&name)) {
+        Ok(seen) => Ok(push_seen(notes, name, seen)?),
+        Err(why) => {
+            drop(name);
+            Err(why)
+        }
+    }
+}
+
+/// What is seen of a partition in its folder, if it has one.
+fn seen_of<D: Disk>(logs: &Logs<'_, D>, end: &End, has_folder: bool) -> Result<Seen, InitFault>
+    ensures { IfErr result (RefusesBy (RefusesCopy (D.holds logs.now.disk.now) (path_of_end logs.now.folder.now end.now))) }
+{
+    if !has_folder {
         return Ok(if end.end > 0 {
-            Some(Note::NoFolder(name))
+            Seen::NoFolder
         } else {
-            None
+            Seen::Nothing
         });
     }
     let bases = logs.bases(end)?;
     let Some(base) = bases.first() else {
-        return Ok(None);
+        return Ok(Seen::Nothing);
     };
-    if *base != 0 {
-        return Ok(Some(Note::FirstSegment(name, *base)));
+    let base = *base;
+    drop(bases);
+    if base != 0 {
+        return Ok(Seen::FirstSegment(base));
     }
-    let bytes = logs.segment(end, *base)?;
+    let bytes = logs.segment(end, base)?;
     Ok(if is_compressed_at_head(bytes.as_slice()) {
-        Some(Note::Compressed(name))
+        Seen::Compressed
     } else {
-        None
+        Seen::Nothing
     })
+}
+
+fn push_seen(notes: &mut Vec<Note>, name: PartitionName, seen: Seen) -> Result<(), AllocError> {
+    let note = match seen {
+        Seen::Nothing => return Ok(()),
+        Seen::NoFolder => Note::NoFolder(name),
+        Seen::FirstSegment(base) => Note::FirstSegment(name, base),
+        Seen::Compressed => Note::Compressed(name),
+    };
+    notes.push(note)?;
+    Ok(())
 }

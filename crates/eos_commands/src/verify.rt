@@ -24,7 +24,11 @@ pub fn verify_partitions(rt: &HostRuntime, folder: &str, logs: &[&str]) -> u8 {
     let given = Compared { folder, logs };
     match verify_folds(rt.alloc(), &HostDisk { rt }, given) {
         Ok(found) => tell(rt, folder, found.as_slice()),
-        Err(fault) => end_unread(rt, Subject::Only, &fault),
+        Err(fault) => {
+            let status = end_unread(rt, Subject::Only, &fault);
+            drop(fault);
+            status
+        }
     }
 }
 

@@ -1,6 +1,6 @@
 //! Comparing folds with the logs that they were made of, where these are at hand.
 
-ghost use Rattle.std.specs.Prelude.{◌≡◌, ◌≤◌, ◌<◌, ◌⊎◌, ◌++◌, ℕ, List, length, map, slice_get, None, Some, Ok, false, IfOk, IfSome, OnOk};
+ghost use Rattle.std.specs.Prelude.{◌≡◌, ◌≤◌, ◌<◌, ◌⊎◌, ◌++◌, ℕ, List, length, map, slice_get, None, Some, false, IfOk, IfSome, OnOk};
 ghost use Rattle.std.specs.Io.KnownBytes.{Consumes, IsAtEnd};
 ghost use Rattle.eos_base.specs.Members.{Has};
 ghost use Rattle.eos_disk.specs.Entries.{HasBytes, MayLackFile};
@@ -82,21 +82,17 @@ pub fn verify_folds<D: Disk>(
 {
     list_all(alloc, disk, given.logs)?;
     let shape = read_shape(alloc, disk, given.folder, &Unwatched)?;
-    let found = compare_shape(alloc, disk, given, &shape);
-    if_listed(shape.listed, found)
-}
-
-/// What was found, if nothing refused the listing.
-fn if_listed(
-    listed: Result<(), FolderFault>,
-    found: Result<Vec<Found>, FolderFault>,
-) -> Result<Vec<Found>, FolderFault>
-    ensures { IfOk result (λ all. (listed ≡ Ok tt) × (found ≡ Ok all)) }
-{
-    let all = found?;
-    match listed {
-        Ok(()) => Ok(all),
-        Err(fault) => Err(fault),
+    match compare_shape(alloc, disk, given, &shape) {
+        Ok(found) => {
+            drop(shape.evidence);
+            drop(shape.forms);
+            shape.listed?;
+            Ok(found)
+        }
+        Err(fault) => {
+            drop(shape);
+            Err(fault)
+        }
     }
 }
 
@@ -232,13 +228,17 @@ impl<'a, D: Disk> Sides<'a, D> {
         ensures { IfOk result (IsLike (D.holds self.now.disk.now) self.now.topics.now asked.entry.wanted asked.entry.name.now logs.now text.now) }
     {
         let made = self.make(alloc, asked, logs)?;
-        if text.as_slice() == made.text.as_slice() {
+        let is_whole = text.as_slice() == made.text.as_slice();
+        drop(made.text);
+        if is_whole {
             return Ok(Likeness::Right);
         }
         match bytes_said(alloc, text)? {
             Some(bytes) if bytes < made.bytes => {
                 let front = self.make_front(alloc, asked, logs, bytes)?;
-                if text.as_slice() == front.as_slice() {
+                let is_front = text.as_slice() == front.as_slice();
+                drop(front);
+                if is_front {
                     Ok(Likeness::Stale)
                 } else {
                     Ok(Likeness::Forged)
@@ -314,7 +314,11 @@ fn make_of<R: Read>(
 /// How many bytes the segment has by its fold, if these bytes are one.
 fn bytes_said(alloc: Global, text: &Bytes) -> Result<Option<u64>, AllocError> {
     match decode_fold(alloc, text) {
-        Ok(fold) => Ok(Some(fold.bytes)),
+        Ok(fold) => {
+            let bytes = fold.bytes;
+            drop(fold);
+            Ok(Some(bytes))
+        }
         Err(FoldFault::OutOfMemory) => Err(AllocError),
         Err(_) => Ok(None),
     }

@@ -4,9 +4,14 @@ use Rattle.std.proofs.lemmas.Result.{err_from_is_err_and}
 use Rattle.eos_reading.specs.Wanted.{wanted_of}
 use Rattle.eos_commands.specs.Folding.{Folded, items_of}
 use Rattle.eos_commands.specs.declared.folder.PartitionFolder.{PartitionFolder}
-use Rattle.eos_commands.proofs.FoldsMore.{next_folder, more_in_part}
+use Rattle.eos_commands.proofs.FoldsMore.{next_folder, more_in_part, none_folded}
 use Rattle.eos_commands.proofs.FoldsRefused.{first_in_all}
 use Rattle.eos_commands.proofs.folding.fold_all.Goals as goal
+
+pub returns-in_err-wants-clause-err : goal.returns-in_err-wants-clause-err
+returns-in_err-wants-clause-err g c =
+    let p = err_from_is_err_and c.from_residual.result c.from_residual.ensures.1 in
+    rw p.1 (none_folded (g.D.Disk.holds c.args.disk.now) c.args.roles.topics.now c.args.roles.out.now)
 
 pub loop-folder-preserved : goal.loop-folder-preserved
 loop-folder-preserved g c =

@@ -2,8 +2,19 @@ use Rattle.std.proofs.Common.{List, ℕ, inl, inr, refl, subst, map}
 use Rattle.std.proofs.lemmas.Result.{on_ok_weaker, err_from_is_err_and, IfErr-weaker}
 use Rattle.eos_disk.specs.Entries.{HasBytes}
 use Rattle.eos_disk.specs.Refusals.{RefusesManifest}
+use Rattle.eos_commands.proofs.FoldsMore.{nothing_folded}
 use Rattle.eos_commands.proofs.FoldsRefused.{refused_by}
 use Rattle.eos_commands.proofs.folding.fold_folders.Goals as goal
+
+pub returns-in_err-manifest-clause-err : goal.returns-in_err-manifest-clause-err
+returns-in_err-manifest-clause-err g c =
+    let p = err_from_is_err_and c.from_residual.result c.from_residual.ensures.1 in
+    rw p.1 (nothing_folded (g.D.Disk.holds c.args.disk.now) c.args.given.out.now)
+
+pub returns-in_err-spec-clause-err : goal.returns-in_err-spec-clause-err
+returns-in_err-spec-clause-err g c =
+    let p = err_from_is_err_and c.from_residual-in_err-spec.result c.from_residual-in_err-spec.ensures.1 in
+    rw p.1 (nothing_folded (g.D.Disk.holds c.args.disk.now) c.args.given.out.now)
 
 pub returns-clause-ok : goal.returns-clause-ok
 returns-clause-ok g c =

@@ -1,8 +1,19 @@
 use Rattle.std.proofs.Common.{rules, map}
 use Rattle.std.proofs.lemmas.Result.{on_ok_weaker, on_err_weaker, err_from_is_err_and, IfErr-weaker}
 use Rattle.eos_commands.proofs.AllFolded.{all_folded}
+use Rattle.eos_commands.proofs.FoldsMore.{nothing_folded}
 use Rattle.eos_commands.proofs.FoldsRefused.{given_refused, log_refused}
 use Rattle.eos_commands.proofs.folding.put_by.Goals as goal
+
+pub returns-in_err-folders-clause-err : goal.returns-in_err-folders-clause-err
+returns-in_err-folders-clause-err g c =
+    let p = err_from_is_err_and c.from_residual.result c.from_residual.ensures.1 in
+    rw p.1 (nothing_folded (g.D.Disk.holds c.args.disk.now) c.args.given.out.now)
+
+pub returns-in_err-topics-clause-err : goal.returns-in_err-topics-clause-err
+returns-in_err-topics-clause-err g c =
+    let p = err_from_is_err_and c.from_residual-in_err-topics.result c.from_residual-in_err-topics.ensures.1 in
+    rw p.1 (nothing_folded (g.D.Disk.holds c.args.disk.now) c.args.given.out.now)
 
 pub returns-clause-ok : goal.returns-clause-ok
 returns-clause-ok g c =

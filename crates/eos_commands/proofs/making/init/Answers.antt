@@ -1,4 +1,4 @@
-use Rattle.std.proofs.Common.{string_bytes, rules}
+use Rattle.std.proofs.Common.{string_bytes}
 use Rattle.std.proofs.lemmas.Result.{err_from_is_err_and}
 use Rattle.eos_disk.specs.Paths.{manifest_path}
 use Rattle.eos_commands.proofs.Placed.{left_nothing, left_there, all_made}
@@ -31,17 +31,17 @@ returns-in_err-write_manifest-clause-err g c =
 
 pub returns-then-stands-clause-refused : goal.returns-then-stands-clause-refused
 returns-then-stands-clause-refused g c =
-    there_first c.args.given (g.D.Disk.holds c.args.disk.now) _ _ c.in_ok-path.path c.as_str.result.now (search rules) c.in_ok-path.ensures (c.stands.ensures.there c.if-stands.true)
+    there_first c.args.given (g.D.Disk.holds c.args.disk.now) _ _ c.in_ok-path.path c.as_str.result.now c.as_str.ensures.value c.in_ok-path.ensures (c.stands.ensures.there c.if-stands.true)
 
 pub returns-in_err-text-clause-refused : goal.returns-in_err-text-clause-refused
 returns-in_err-text-clause-refused g c =
     let p = err_from_is_err_and c.from_residual-in_err-text.result c.from_residual-in_err-text.ensures.1 in
-    rw (p.1, p.2) (not_made c.args.given (g.D.Disk.holds c.args.disk.now) _ _ (string_bytes c.in_ok-path.path) c.as_str.result.now c.in_err-text.field-0.0 (search rules) c.in_ok-path.ensures
+    rw (p.1, p.2) (not_made c.args.given (g.D.Disk.holds c.args.disk.now) _ _ (string_bytes c.in_ok-path.path) c.as_str.result.now c.in_err-text.field-0.0 c.as_str.ensures.value c.in_ok-path.ensures
     (c.stands.ensures.free c.if-stands.false) c.in_err-text.ensures.refused)
 
 pub returns-in_err-write_manifest-clause-refused : goal.returns-in_err-write_manifest-clause-refused
 returns-in_err-write_manifest-clause-refused g c =
     let p = err_from_is_err_and c.from_residual-in_err-write_manifest.result c.from_residual-in_err-write_manifest.ensures.1 in
     let made = c.in_ok-text.ensures.ok in
-    rw (p.1, p.2) (not_put c.args.given (g.D.Disk.holds c.args.disk.now) _ _ made.0 (string_bytes c.in_ok-path.path) c.as_str.result.now c.in_err-write_manifest.field-0.0 (search rules)
+    rw (p.1, p.2) (not_put c.args.given (g.D.Disk.holds c.args.disk.now) _ _ made.0 (string_bytes c.in_ok-path.path) c.as_str.result.now c.in_err-write_manifest.field-0.0 c.as_str.ensures.value
     c.in_ok-path.ensures (c.stands.ensures.free c.if-stands.false) made.1 c.in_err-write_manifest.ensures.refused)

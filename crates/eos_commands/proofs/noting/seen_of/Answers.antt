@@ -4,11 +4,11 @@ use Rattle.std.proofs.lemmas.Result.{err_from_is_err_and}
 use mir.Val.{to_z, of_z}
 use Rattle.eos_disk.specs.Paths.{path_of_end}
 use Rattle.eos_commands.proofs.CopiesRefused.{note_unlisted, note_unread}
-use Rattle.eos_commands.proofs.noting.note_on.Goals as goal
+use Rattle.eos_commands.proofs.noting.seen_of.Goals as goal
 
 pub returns-in_err-bases : goal.returns-in_err-bases
 returns-in_err-bases g c =
-    let p = err_from_is_err_and c.from_residual-in_err-bases.result c.from_residual-in_err-bases.ensures.1 in
+    let p = err_from_is_err_and c.from_residual.result c.from_residual.ensures.1 in
     rw (p.1, p.2) (note_unlisted (g.D.Disk.holds c.args.logs.now.disk.now) (path_of_end c.args.logs.now.folder.now c.args.end.now) c.in_err-bases.field-0.0 c.in_err-bases.ensures.refused)
 
 pub returns-in_err-bytes : goal.returns-in_err-bytes
