@@ -11,7 +11,7 @@ use Rattle.std.specs.declared.cmp.Ordering.TheVariants.{Less, Equal, Greater}
 use Rattle.std.proofs.Math.Seq.{drop-cons}
 use Rattle.std.proofs.lemmas.Option.{slice_get-get_or, slice_get_past, slice_get_within, get_or_from_slice_get}
 use Rattle.std.proofs.lemmas.Cmp.{int_cmp_total, nat_list_cmp_total}
-use Rattle.std.proofs.lemmas.List.{append-nil, take_more}
+use Rattle.std.proofs.lemmas.List.{append-nil, drop_more, drop_all, take_more}
 use Rattle.std.proofs.lemmas.List.Sorted.{Contains-permutation}
 use Rattle.eos_base.proofs.Exact.{bytes_exact, int_exact, is_tied}
 use Rattle.eos_base.specs.declared.partition_name.PartitionName.{PartitionName}
@@ -143,6 +143,9 @@ flat_next f xs i d old now all lt is before =
     let split : flat_map f (drop i xs) ≡ f (get_or xs i d) ++ rest = ap (flat_map f) (drop-cons xs i d lt) ∙ ap (λ n. f (get_or xs i d) ++ flat_map f (drop n xs)) one in
     ap (λ z. z ++ rest) is ∙ (append_assoc old (f (get_or xs i d)) rest ∙ (ap (λ z. old ++ z) (sym split) ∙ before))
 
+pub flat_end : {X Y : Type 0} (f : X → List Y) (xs : List X) (i : ℕ) (found all : List Y) → length xs ≤ i → found ++ flat_map f (drop i xs) ≡ all → found ≡ all
+flat_end f xs i found all le h = sym (append-nil found) ∙ (ap (λ z. found ++ flat_map f z) (sym (drop_all i xs le)) ∙ h)
+
 map_last : {X Y : Type 0} (f : X → Y) (xs : List X) (x : X) → map f (xs ++ x ∷ []) ≡ map f xs ++ f x ∷ []
 map_last f [] x = refl
 map_last f (y ∷ ys) x = ap (λ z. f y ∷ z) (map_last f ys x)
@@ -197,6 +200,20 @@ not_at order i place d apart at = apart (ap (λ (s : ℕ × ℕ). s.1) (get_or_f
 
 pub is_at : (order : List (ℕ × ℕ)) (i place : ℕ) (d : ℕ × ℕ) → i < length order → (get_or order i d).1 ≡ place → IsAtPlace order i place
 is_at order i place d lt e = ((get_or order i d).0, slice_get-get_or order i d lt ∙ ap (λ (z : ℕ). Some ((get_or order i d).0, z)) e)
+
+-- ---- where each stands
+
+-- what is left, one transaction further, and none
+pub standings_next : (p : PartLog) (columns : List Column) (i : ℕ) (d c : Column) (found : Option ℕ) (old now all : List (ℕ × ℕ)) → i < length columns → c ≡ get_or columns i d → found ≡ stands_at p c
+    → now ≡ old ++ standing found i → old ++ standings p i (drop i columns) ≡ all → now ++ standings p (i + 1) (drop (i + 1) columns) ≡ all
+standings_next p columns i d c found old now all lt is stands more before =
+    let rest = standings p (i + 1) (drop (i + 1) columns) in
+    let here : stands_at p (get_or columns i d) ≡ found = ap (stands_at p) (sym is) ∙ sym stands in
+    let split : standings p i (drop i columns) ≡ standing found i ++ rest = ap (standings p i) (drop_more columns i d lt) ∙ ap (λ (z : Option ℕ). standing z i ++ rest) here in
+    ap (λ z. z ++ rest) more ∙ (append_assoc old (standing found i) rest ∙ (ap (λ z. old ++ z) (sym split) ∙ before))
+
+pub standings_end : (p : PartLog) (columns : List Column) (i : ℕ) (found all : List (ℕ × ℕ)) → length columns ≤ i → found ++ standings p i (drop i columns) ≡ all → found ≡ all
+standings_end p columns i found all le h = sym (append-nil found) ∙ (ap (λ z. found ++ standings p i z) (sym (drop_all i columns le)) ∙ h)
 
 -- ---- those around one
 

@@ -106,7 +106,10 @@ fn push_found(
     ensures shows { OnOk result (IsShown marks.new.items i found) }
 {
     match found {
-        None => Ok(()),
+        None => {
+            drop(found);
+            Ok(())
+        }
         Some(sign) => push_mark(marks, scene, part, i, sign),
     }
 }

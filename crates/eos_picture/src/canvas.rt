@@ -3,6 +3,7 @@
 ghost use Rattle.std.specs.Prelude.{◌≡◌, ◌++◌, ◌∷◌, [], OnOk, string_bytes};
 ghost use Rattle.eos_picture.specs.Told.{telling, tellings};
 
+use crate::growing::put;
 use crate::{Line, Look, Point, Shape, Size};
 use std::alloc::{AllocError, Global};
 
@@ -40,8 +41,7 @@ impl Canvas {
         requires { telling shape ≡ [] }
         ensures { OnOk result (tellings self.new.shapes.items ≡ tellings self.old.shapes.items) }
     {
-        self.shapes.push(shape)?;
-        Ok(())
+        put(&mut self.shapes, shape)
     }
 
     pub(crate) fn rectangle(&mut self, at: Point, size: Size, look: Look) -> Result<(), AllocError>
@@ -82,8 +82,7 @@ impl Canvas {
     pub(crate) fn told(&mut self, at: Point, size: Size, text: String) -> Result<(), AllocError>
         ensures { OnOk result (tellings self.new.shapes.items ≡ tellings self.old.shapes.items ++ string_bytes text ∷ []) }
     {
-        self.shapes.push(Shape::Told { at, size, text })?;
-        Ok(())
+        put(&mut self.shapes, Shape::Told { at, size, text })
     }
 
     /// A ring around a shape of this size, which is a place of the fault.
@@ -99,8 +98,21 @@ impl Canvas {
             height: size.height.saturating_add(6),
         };
         self.rectangle(corner, around, Look::Fault)?;
-        self.spots.push(moved(corner, around.width / 2, 0))?;
-        Ok(())
+        put(&mut self.spots, moved(corner, around.width / 2, 0))
+    }
+
+    fn arc(&mut self, from: Point, to: Point) -> Result<(), AllocError>
+        ensures { OnOk result (tellings self.new.shapes.items ≡ tellings self.old.shapes.items) }
+    {
+        let over = Point {
+            x: from.x / 2 + to.x / 2,
+            y: from.y.min(to.y).saturating_sub(44),
+        };
+        self.push(Shape::Arc {
+            line: Line { from, to },
+            over,
+            look: Look::FaultArc,
+        })
     }
 
     /// Arcs from each of these points to the next one.
@@ -108,17 +120,7 @@ impl Canvas {
         ensures { OnOk result (tellings self.new.shapes.items ≡ tellings self.old.shapes.items) }
     {
         for i in 1..spots.len() {
-            let from = spots[i - 1];
-            let to = spots[i];
-            let over = Point {
-                x: from.x / 2 + to.x / 2,
-                y: from.y.min(to.y).saturating_sub(44),
-            };
-            self.push(Shape::Arc {
-                line: Line { from, to },
-                over,
-                look: Look::FaultArc,
-            })?;
+            self.arc(spots[i - 1], spots[i])?;
         }
         Ok(())
     }

@@ -15,7 +15,6 @@ const MOST: u64 = 12;
 const LABEL: u64 = 14;
 
 /// Where in a cell a mark lies.
-#[derive(Clone, Copy)]
 pub(crate) enum Room {
     /// In a box, beside others.
     Box,

@@ -7,6 +7,7 @@ ghost use Rattle.eos_picture.specs.Order.{near_to};
 ghost use Rattle.eos_picture.specs.Window.{at_place, around_in, named_by, AreAround, AreShown};
 ghost use Rattle.eos_picture.specs.steps.Standing.{IsNearYet, AreNoNearer};
 
+use crate::growing::put;
 use crate::mark::{Column, Decided};
 use crate::named::is_named_by;
 use crate::order::{order_of, position_of, stand_of};
@@ -185,8 +186,7 @@ fn push_at(shown: &mut Vec<Column>, columns: &[Column], place: usize) -> Result<
     if place >= columns.len() {
         return Ok(());
     }
-    shown.push(copy_of(&columns[place])?)?;
-    Ok(())
+    put(shown, copy_of(&columns[place])?)
 }
 
 /// The transactions at these columns.

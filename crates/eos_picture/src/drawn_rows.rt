@@ -10,13 +10,13 @@ use crate::canvas::{Canvas, moved};
 use crate::cells::{
     Cell, DrawnRow, Room, cells_of, column_in, empty_cells, offset_of, pitch_of, put_mark, room_of,
 };
-use crate::labels::{commit_label, name_label, number_label, passed_label};
+use crate::labels::{commit_label, labelled, name_label, passed_label};
 use crate::plan::{CHARACTER, NAME, Plan};
 use crate::told::{Marked, time_at, told_of};
 use crate::{Column, Look, Mark, Point, Row, Sign, Size};
 use eos_batch::Kind;
 use eos_fold::Fate;
-use eos_text::{push_text, push_value};
+use eos_text::push_text;
 use std::alloc::{AllocError, Global};
 
 /// The height of a box.
@@ -72,14 +72,14 @@ fn words_on(look: Look) -> Look {
 /// What stands in the box of a sign, of at most so many characters where it is a line.
 fn words_of(alloc: Global, sign: &Sign, most: usize) -> Result<String, AllocError> {
     match sign {
-        Sign::Decision { offset, .. } | Sign::Record { offset, .. } => number_label(alloc, *offset),
+        Sign::Decision { offset, .. } | Sign::Record { offset, .. } => labelled(alloc, "", offset),
         Sign::Commit {
             source,
             committed,
             ..
         } => commit_label(alloc, source, *committed, most),
         Sign::Passed { from, to, .. } => passed_label(alloc, from, to),
-        Sign::Spot(Some(offset)) => number_label(alloc, *offset),
+        Sign::Spot(Some(offset)) => labelled(alloc, "", offset),
         Sign::Spot(None) | Sign::Marker { .. } | Sign::Missing(_) => String::from_str(alloc, "?"),
     }
 }
@@ -92,8 +92,7 @@ fn draw_ring(canvas: &mut Canvas, at: Point, size: Size, mark: &Mark) -> Result<
 {
     canvas.ring(at, size)?;
     if let Some(offset) = offset_of(mark) {
-        let mut text = String::new(canvas.alloc);
-        push_value(&mut text, ":", &offset)?;
+        let text = labelled(canvas.alloc, ":", &offset)?;
         let below = moved(at, 0, size.height.saturating_add(14));
         canvas.text(below, text, Look::FaultWords)?;
     }
@@ -128,8 +127,7 @@ fn draw_count(canvas: &mut Canvas, at: Point, sign: &Sign) -> Result<(), AllocEr
 {
     if let Sign::Marker { count, .. } = sign {
         if *count > 1 {
-            let mut text = String::new(canvas.alloc);
-            push_value(&mut text, "x", count)?;
+            let text = labelled(canvas.alloc, "x", count)?;
             return canvas.text(at, text, Look::Words);
         }
     }
@@ -148,8 +146,8 @@ fn draw_box(
 {
     let width = size.width;
     let look = sign_look(&mark.sign, is_open);
-    let text = words_of(canvas.alloc, &mark.sign, (width / CHARACTER) as usize)?;
     canvas.rectangle(at, size, look)?;
+    let text = words_of(canvas.alloc, &mark.sign, (width / CHARACTER) as usize)?;
     canvas.text(moved(at, 4, 12), text, words_on(look))?;
     if mark.is_of_fault {
         draw_ring(canvas, at, size, mark)?;
@@ -256,6 +254,14 @@ fn draw_marks(canvas: &mut Canvas, place: DrawnRow<'_>, told: Telling<'_>) -> Re
     Ok(())
 }
 
+fn draw_more(canvas: &mut Canvas, at: Point, left_out: u64) -> Result<(), AllocError>
+    ensures { OnOk result (tellings canvas.new.shapes.items ≡ tellings canvas.old.shapes.items) }
+{
+    let mut text = labelled(canvas.alloc, ".. and ", &left_out)?;
+    push_text(&mut text, " more")?;
+    canvas.text(at, text, Look::Remark)
+}
+
 /// How many are left out, in each cell where some are.
 fn draw_left_out(canvas: &mut Canvas, place: DrawnRow<'_>) -> Result<(), AllocError>
     ensures { OnOk result (tellings canvas.new.shapes.items ≡ tellings canvas.old.shapes.items) }
@@ -263,11 +269,8 @@ fn draw_left_out(canvas: &mut Canvas, place: DrawnRow<'_>) -> Result<(), AllocEr
     for column in 0..place.cells.len() {
         let cell = place.cells[column];
         if cell.left_out > 0 {
-            let mut text = String::new(canvas.alloc);
-            push_value(&mut text, ".. and ", &cell.left_out)?;
-            push_text(&mut text, " more")?;
             let at = place.next_line(column, cell, cell);
-            canvas.text(moved(at, 4, 12), text, Look::Remark)?;
+            draw_more(canvas, moved(at, 4, 12), cell.left_out)?;
         }
     }
     Ok(())
@@ -293,8 +296,7 @@ fn draw_frame(
         x: place.plan.right(),
         y: bottom,
     };
-    canvas.line(from, to, Look::Row)?;
-    Ok(())
+    canvas.line(from, to, Look::Row)
 }
 
 /// Draws a row from this height on, and gives the height where it ends.

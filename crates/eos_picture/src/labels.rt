@@ -7,6 +7,7 @@ ghost use Rattle.eos_picture.specs.Titles.{passed_text};
 use eos_base::PartitionName;
 use eos_text::{push_escaped, push_text, push_value};
 use std::alloc::{AllocError, Global};
+use std::fmt::Display;
 
 /// How many digits a number has.
 pub(crate) fn digits(number: u64) -> u64 {
@@ -21,23 +22,37 @@ pub(crate) fn digits(number: u64) -> u64 {
     count
 }
 
-/// A text in ASCII of at most so many characters: of a longer one the first and the last ones, with two dots between.
-pub(crate) fn shortened(alloc: Global, text: &str, most: usize) -> Result<String, AllocError> {
-    let bytes = text.as_bytes();
+/// A label and what `{}` writes of a value.
+pub(crate) fn labelled<T: Display>(
+    alloc: Global,
+    label: &str,
+    value: &T,
+) -> Result<String, AllocError> {
     let mut out = String::new(alloc);
-    if bytes.len() <= most {
-        push_bytes(&mut out, bytes)?;
-        return Ok(out);
-    }
-    let kept = most.saturating_sub(2);
-    let last = kept / 2;
-    push_bytes(&mut out, &bytes[..(kept - last).min(bytes.len())])?;
-    push_text(&mut out, "..")?;
-    push_bytes(&mut out, &bytes[bytes.len().saturating_sub(last)..])?;
+    push_value(&mut out, label, value)?;
     Ok(out)
 }
 
-fn push_bytes(out: &mut String, bytes: &[u8]) -> Result<(), AllocError> {
+/// A text in ASCII of at most so many characters: of a longer one the first and the last ones, with two dots between.
+pub(crate) fn shortened(alloc: Global, text: &str, most: usize) -> Result<String, AllocError> {
+    let mut out = String::new(alloc);
+    push_shortened(&mut out, text.as_bytes(), most)?;
+    Ok(out)
+}
+
+fn push_shortened(out: &mut String, bytes: &[u8], most: usize) -> Result<(), AllocError> {
+    if bytes.len() <= most {
+        return push_bytes(out, bytes);
+    }
+    let kept = most.saturating_sub(2);
+    let last = kept / 2;
+    push_bytes(out, &bytes[..(kept - last).min(bytes.len())])?;
+    push_text(out, "..")?;
+    push_bytes(out, &bytes[bytes.len().saturating_sub(last)..])
+}
+
+/// Adds bytes of a text in ASCII.
+pub(crate) fn push_bytes(out: &mut String, bytes: &[u8]) -> Result<(), AllocError> {
     for byte in bytes {
         out.push(char::from(*byte))?;
     }
@@ -50,20 +65,16 @@ pub(crate) fn name_label(
     name: &PartitionName,
     most: usize,
 ) -> Result<String, AllocError> {
-    let mut topic = String::new(alloc);
-    push_escaped(alloc, &mut topic, "", name.topic.as_slice())?;
-    let mut number = String::new(alloc);
-    push_value(&mut number, "-", &name.partition)?;
-    let mut out = shortened(alloc, topic.as_str(), most.saturating_sub(number.len()))?;
+    let number = labelled(alloc, "-", &name.partition)?;
+    let mut out = topic_label(alloc, name, most.saturating_sub(number.len()))?;
     push_text(&mut out, number.as_str())?;
     Ok(out)
 }
 
-/// A number.
-pub(crate) fn number_label(alloc: Global, number: u64) -> Result<String, AllocError> {
-    let mut out = String::new(alloc);
-    push_value(&mut out, "", &number)?;
-    Ok(out)
+fn topic_label(alloc: Global, name: &PartitionName, most: usize) -> Result<String, AllocError> {
+    let mut topic = String::new(alloc);
+    push_escaped(alloc, &mut topic, "", name.topic.as_slice())?;
+    shortened(alloc, topic.as_str(), most)
 }
 
 /// A partition and the offset that is committed of it.
@@ -73,8 +84,7 @@ pub(crate) fn commit_label(
     committed: i64,
     most: usize,
 ) -> Result<String, AllocError> {
-    let mut offset = String::new(alloc);
-    push_value(&mut offset, " -> ", &committed)?;
+    let offset = labelled(alloc, " -> ", &committed)?;
     let mut out = name_label(alloc, source, most.saturating_sub(offset.len()))?;
     push_text(&mut out, offset.as_str())?;
     Ok(out)

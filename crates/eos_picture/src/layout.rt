@@ -6,7 +6,8 @@ ghost use Rattle.eos_picture.specs.steps.Tellings.{times_of};
 
 use crate::canvas::{Canvas, moved};
 use crate::drawn_rows::{Telling, draw_row};
-use crate::headings::{draw_heading, heading_of, index_of};
+use crate::headings::{draw_heading, index_of};
+use crate::labels::push_bytes;
 use crate::legend::{ROOM, draw_legend};
 use crate::plan::{GAP, Plan, plan_of};
 use crate::times::Times;
@@ -27,35 +28,29 @@ const HEADINGS: u64 = 50;
 const NO_CLOCK: &str =
     "a column is a transaction, T1 the one of the first Prepare record; partitions have no clock in common";
 
-/// The lines of a text in ASCII, of so many characters each.
-fn lines_of(alloc: Global, text: &str, most: u64) -> Result<Vec<String>, AllocError> {
-    let mut lines = Vec::new(alloc);
-    let mut line = String::new(alloc);
-    let mut count = 0u64;
-    for byte in text.as_bytes() {
-        if count == most {
-            lines.push(line)?;
-            line = String::new(alloc);
-            count = 0;
-        }
-        line.push(char::from(*byte))?;
-        count = count.saturating_add(1);
-    }
-    lines.push(line)?;
-    Ok(lines)
-}
-
-/// Draws a text in lines of at most so many characters, and gives the height where they end.
-fn draw_title(canvas: &mut Canvas, title: &str, most: u64) -> Result<u64, AllocError>
+/// Draws a line of the title at this height.
+fn draw_line(canvas: &mut Canvas, y: u64, bytes: &[u8]) -> Result<(), AllocError>
     ensures { OnOk result (tellings canvas.new.shapes.items ≡ tellings canvas.old.shapes.items) }
 {
-    let lines = lines_of(canvas.alloc, title, most.max(1))?;
+    let mut line = String::new(canvas.alloc);
+    push_bytes(&mut line, bytes)?;
+    canvas.text(Point { x: GAP, y }, line, Look::Title)
+}
+
+/// Draws a text in ASCII in lines of at most so many characters, and gives the height where they end.
+fn draw_title(canvas: &mut Canvas, title: &str, most: usize) -> Result<u64, AllocError>
+    requires { 1 ≤ most }
+    ensures { OnOk result (tellings canvas.new.shapes.items ≡ tellings canvas.old.shapes.items) }
+{
     let mut y = GAP.saturating_add(12);
-    for line in lines {
-        canvas.text(Point { x: GAP, y }, line, Look::Title)?;
+    let mut rest = title.as_bytes();
+    while most < rest.len() {
+        draw_line(canvas, y, &rest[..most])?;
+        rest = &rest[most..];
         y = y.saturating_add(TITLE_LINE);
     }
-    Ok(y)
+    draw_line(canvas, y, rest)?;
+    Ok(y.saturating_add(TITLE_LINE))
 }
 
 /// Draws what stands above the columns in a drawing of this width, and gives the height where that ends.
@@ -63,7 +58,7 @@ fn draw_head(canvas: &mut Canvas, title: &str, width: u64) -> Result<u64, AllocE
     ensures { OnOk result (tellings canvas.new.shapes.items ≡ tellings canvas.old.shapes.items) }
 {
     let most = width.saturating_sub(2 * GAP) / TITLE_CHARACTER;
-    let below = draw_title(canvas, title, most)?;
+    let below = draw_title(canvas, title, most.max(1) as usize)?;
     canvas.words(Point { x: GAP, y: below }, NO_CLOCK, Look::Remark)?;
     Ok(below.saturating_add(12))
 }
@@ -78,12 +73,11 @@ fn draw_headings(
     ensures { OnOk result (tellings canvas.new.shapes.items ≡ tellings canvas.old.shapes.items) }
 {
     for i in 0..picture.columns.len() {
-        let heading = heading_of(canvas.alloc, index_of(picture, i), &picture.columns[i])?;
         let at = Point {
             x: plan.x_of(i as u64),
             y: top,
         };
-        draw_heading(canvas, at, heading)?;
+        draw_heading(canvas, at, index_of(picture, i), &picture.columns[i])?;
     }
     if plan.columns > picture.columns.len() {
         let at = Point {

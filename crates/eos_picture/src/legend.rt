@@ -16,8 +16,15 @@ fn draw_sample(canvas: &mut Canvas, at: Point, look: Look, words: &str) -> Resul
     ensures { OnOk result (tellings canvas.new.shapes.items ≡ tellings canvas.old.shapes.items) }
 {
     canvas.rectangle(at, SAMPLE, look)?;
-    canvas.words(moved(at, 22, 11), words, Look::Remark)?;
-    Ok(())
+    canvas.words(moved(at, 22, 11), words, Look::Remark)
+}
+
+/// The same of an end marker.
+fn draw_marker(canvas: &mut Canvas, at: Point, look: Look, words: &str) -> Result<(), AllocError>
+    ensures { OnOk result (tellings canvas.new.shapes.items ≡ tellings canvas.old.shapes.items) }
+{
+    canvas.diamond(moved(at, 8, 0), look)?;
+    canvas.words(moved(at, 22, 11), words, Look::Remark)
 }
 
 /// Draws it below the rows.
@@ -29,15 +36,13 @@ pub(crate) fn draw_legend(canvas: &mut Canvas, at: Point) -> Result<(), AllocErr
     draw_sample(canvas, moved(at, 205, 0), Look::Open, "open: no end marker")?;
     let down = moved(at, 0, 22);
     let last = moved(at, 0, 44);
-    canvas.diamond(moved(down, 8, 0), Look::CommitMarker)?;
-    canvas.words(moved(down, 22, 11), "commits", Look::Remark)?;
-    canvas.diamond(moved(down, 118, 0), Look::AbortMarker)?;
-    canvas.words(moved(down, 132, 11), "aborts", Look::Remark)?;
-    canvas.diamond(moved(last, 308, 0), Look::Missing)?;
-    canvas.words(
-        moved(last, 322, 11),
+    draw_marker(canvas, down, Look::CommitMarker, "commits")?;
+    draw_marker(canvas, moved(down, 110, 0), Look::AbortMarker, "aborts")?;
+    draw_marker(
+        canvas,
+        moved(last, 300, 0),
+        Look::Missing,
         "an end marker that is missing; x2: it stands there twice",
-        Look::Remark,
     )?;
     draw_sample(
         canvas,
@@ -50,8 +55,7 @@ pub(crate) fn draw_legend(canvas: &mut Canvas, at: Point) -> Result<(), AllocErr
         last,
         Look::Fault,
         "a place of the fault, its offset below",
-    )?;
-    Ok(())
+    )
 }
 
 /// How much room it takes.

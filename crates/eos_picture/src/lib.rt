@@ -14,6 +14,7 @@ mod drawing;
 mod drawn_rows;
 mod ends;
 mod escaping;
+mod growing;
 mod headings;
 mod labels;
 pub mod laws;

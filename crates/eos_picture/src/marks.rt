@@ -8,6 +8,7 @@ ghost use Rattle.eos_picture.specs.Whole.{IsAt, Shows};
 ghost use Rattle.eos_picture.specs.steps.Kept.{Keeps};
 
 use crate::ends::{End, count_ends, first_end, first_end_of, has_end};
+use crate::growing::put;
 use crate::mark::{Column, Mark, Sign};
 use crate::named::is_named;
 use crate::passes::Pass;
@@ -31,26 +32,31 @@ pub(crate) struct Scene<'a> {
 
 /// Whether this sign of the transaction is at this place.
 fn is_at(at: At, column: &Column, sign: &Sign) -> bool {
-    match (at, sign) {
-        (
-            At::Offset(place),
+    match at {
+        At::Offset(place) => match sign {
             Sign::Decision { offset, .. }
             | Sign::Record { offset, .. }
-            | Sign::Commit { offset, .. },
-        ) => place == *offset,
-        (
-            At::Transaction { producer, epoch },
-            Sign::Record { .. } | Sign::Commit { .. } | Sign::Marker { .. } | Sign::Missing(_),
-        )
-        | (At::Open { producer, epoch }, Sign::Missing(_)) => {
-            is_written_by(column, (producer, epoch))
+            | Sign::Commit { offset, .. } => place == *offset,
+            _ => false,
+        },
+        At::Transaction { producer, epoch } => match sign {
+            Sign::Record { .. } | Sign::Commit { .. } | Sign::Marker { .. } | Sign::Missing(_) => {
+                is_written_by(column, (producer, epoch))
+            }
+            _ => false,
+        },
+        At::Open { producer, epoch } => {
+            matches!(sign, Sign::Missing(_)) && is_written_by(column, (producer, epoch))
         }
-        (At::Marker { end, .. }, Sign::Marker { kind, .. }) => end.kind == *kind
-            && has_end(column, end),
-        (At::Passing(place), Sign::Passed { fate, from, to }) => {
-            is_visible(*fate) && is_within(place, *from, *to)
-        }
-        _ => false,
+        At::Marker { end, .. } => match sign {
+            Sign::Marker { kind, .. } => end.kind == *kind && has_end(column, end),
+            _ => false,
+        },
+        At::Passing(place) => match sign {
+            Sign::Passed { fate, from, to } => is_visible(*fate) && is_within(place, *from, *to),
+            _ => false,
+        },
+        At::Near(_) => false,
     }
 }
 
@@ -111,17 +117,18 @@ pub(crate) fn push_mark(
     ensures shows { column < length scene.entry.columns.now → OnOk result (Shows marks.new.items (IsAt column sign)) }
 {
     let Some(of) = scene.columns.get(column) else {
+        drop(sign);
         return Ok(());
     };
     let at = spot_of(scene, part, of, &sign);
     let offset = marker_offset(part, of, &sign, at);
-    marks.push(Mark {
+    let mark = Mark {
         column,
         sign,
         is_of_fault: at.is_some(),
         offset,
-    })?;
-    Ok(())
+    };
+    put(marks, mark)
 }
 
 // ---- places where nothing stands
@@ -147,11 +154,25 @@ pub(crate) fn push_spots(
     ensures keeps { OnOk result (Keeps marks.old.items marks.new.items) }
 {
     for spot in scene.spots {
-        if let Some(mark) = absent_of(marks.as_slice(), scene, part, spot) {
-            marks.push(mark)?;
-        }
+        push_absent(marks, scene, part, spot)?;
     }
     Ok(())
+}
+
+/// Puts the mark of the place at the end, if it is in the partition and nothing stands there.
+fn push_absent(
+    marks: &mut Vec<Mark>,
+    scene: Scene<'_>,
+    part: &Part,
+    spot: &Spot,
+) -> Result<(), AllocError>
+    ensures so { AreTrue part.now scene.entry.columns.now marks.old.items → OnOk result (AreTrue part.now scene.entry.columns.now marks.new.items) }
+    ensures keeps { OnOk result (Keeps marks.old.items marks.new.items) }
+{
+    match absent_of(marks.as_slice(), scene, part, spot) {
+        None => Ok(()),
+        Some(mark) => put(marks, mark),
+    }
 }
 
 /// The mark of the place, if it is in the partition and nothing stands there.

@@ -90,19 +90,12 @@ fn lasts_of(alloc: Global, part: &Part) -> Result<Lasts, AllocError>
     Ok(lasts)
 }
 
-/// The offset of the last data record of this producer id and epoch, by the table of all.
-fn last_by(lasts: &Lasts, writer: (i64, i16)) -> Option<u64>
-    ensures { result ≡ get by_writer lasts.now writer }
-{
-    lasts.get(&writer).copied()
-}
-
-/// The same of a partition of which these are the last data records.
+/// The offset of the last data record of this producer id and epoch, in a partition of which these are the last data records.
 fn last_in(lasts: &Lasts, part: &Part, writer: (i64, i16)) -> Option<u64>
     requires { (w : ℤ × ℤ) → get by_writer lasts.now w ≡ last_in_items part.now.items w }
     ensures { result ≡ last_in_items part.now.items writer }
 {
-    last_by(lasts, writer)
+    lasts.get(&writer).copied()
 }
 
 /// Where a transaction stands in a partition, of which these are the last data records.

@@ -1,5 +1,6 @@
 //! Which offsets of its sources a transaction's commits passed.
 
+use crate::growing::put;
 use crate::mark::Column;
 use crate::window::column_of;
 use eos_commits::is_visible;
@@ -58,14 +59,15 @@ fn take_commit<'a>(
     let from = last.get(&source).copied().unwrap_or(0);
     if let Some(writer) = item.writer() {
         if let Some(column) = column_of(columns, writer) {
-            passes.push(Pass {
+            let pass = Pass {
                 topic: key.topic,
                 partition: key.partition,
                 column,
                 fate: item.fate(),
                 from,
                 to,
-            })?;
+            };
+            put(passes, pass)?;
         }
     }
     if is_visible(item.fate()) {

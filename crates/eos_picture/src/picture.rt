@@ -81,11 +81,15 @@ pub fn picture_of(
     let wanted = Wanted { fault, around };
     let places = columns_shown(alloc, every.as_slice(), logs, wanted, middle)?;
     let columns = columns_at(alloc, every.as_slice(), places.as_slice())?;
-    let rows = rows_shown(alloc, columns.as_slice(), spots.as_slice(), logs)?;
+    let all = every.len();
+    drop(every);
+    let rows = rows_shown(alloc, columns.as_slice(), spots.as_slice(), logs);
+    drop(spots);
+    let rows = rows?;
     Ok(Picture {
         columns,
         places,
-        all: every.len(),
+        all,
         rows,
     })
 }

@@ -4,7 +4,7 @@ ghost use Rattle.std.specs.Prelude.{◌≤◌, IfOk};
 
 use crate::Picture;
 use crate::cells::offset_of;
-use crate::headings::{heading_of, index_of};
+use crate::headings::{HeadingLine, index_of, line_of};
 use crate::labels::{digits, name_label};
 use std::alloc::{AllocError, Global};
 
@@ -48,13 +48,12 @@ fn name_characters(alloc: Global, picture: &Picture) -> Result<usize, AllocError
 fn heading_characters(alloc: Global, picture: &Picture) -> Result<usize, AllocError> {
     let mut most = 18;
     for i in 0..picture.columns.len() {
-        let heading = heading_of(alloc, index_of(picture, i), &picture.columns[i])?;
-        most = heading
-            .first
-            .len()
-            .max(heading.second.len())
-            .max(heading.third.len())
-            .max(most);
+        let column = &picture.columns[i];
+        let place = index_of(picture, i);
+        let id = line_of(alloc, HeadingLine::Id, place, column)?.len();
+        let producer = line_of(alloc, HeadingLine::Producer, place, column)?.len();
+        let decision = line_of(alloc, HeadingLine::Decision, place, column)?.len();
+        most = id.max(producer).max(decision).max(most);
     }
     Ok(most)
 }

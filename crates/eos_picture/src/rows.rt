@@ -9,6 +9,7 @@ ghost use Rattle.eos_picture.specs.Whole.{ShowsRecord, IsWhole, IsCovered, HasWh
 ghost use Rattle.eos_picture.specs.steps.Kept.{Keeps};
 
 use crate::acts::push_acts;
+use crate::growing::put;
 use crate::mark::{Mark, Row, Sign};
 use crate::marks::{Scene, push_mark, push_spots};
 use crate::passes::commit_of;
@@ -137,10 +138,10 @@ fn push_row(
 {
     let row = row_of(alloc, scene, part)?;
     if row.marks.is_empty() {
+        drop(row);
         return Ok(());
     }
-    rows.push(row)?;
-    Ok(())
+    put(rows, row)
 }
 
 /// Puts the row of a partition behind those of Kafka's internal topics, if it is one of these, or else behind the others.

@@ -7,6 +7,7 @@ ghost use Rattle.eos_picture.specs.Window.{place_of};
 ghost use Rattle.eos_picture.specs.steps.Spots.{StartsAt, spot_at};
 
 use crate::ends::{End, count_ends, is_ended_by, marker_at, open_epoch};
+use crate::growing::put;
 use crate::mark::Column;
 use crate::named::{is_named, name_in, transaction_log};
 use crate::outputs::{app_of, push_output};
@@ -52,11 +53,8 @@ pub(crate) fn push_offset(
 ) -> Result<(), AllocError>
     ensures { OnOk result (spots.new.items ≡ spots.old.items ++ spot_at (record { partition = name; offset = offset }) ∷ []) }
 {
-    spots.push(Spot {
-        name,
-        at: At::Offset(offset),
-    })?;
-    Ok(())
+    let at = At::Offset(offset);
+    put(spots, Spot { name, at })
 }
 
 // ---- between decisions and logs
@@ -102,11 +100,8 @@ fn push_match_in(
 fn push_at(spots: &mut Vec<Spot>, name: &PartitionName, at: At) -> Result<(), AllocError>
     ensures stays { (first : Option Place) → StartsAt spots.old.items first → OnOk result (StartsAt spots.new.items first) }
 {
-    spots.push(Spot {
-        name: name.clone()?,
-        at,
-    })?;
-    Ok(())
+    let name = name.clone()?;
+    put(spots, Spot { name, at })
 }
 
 /// The end markers of this producer id and epoch, those of each kind by themselves.
@@ -119,14 +114,14 @@ fn push_strays(
 ) -> Result<(), AllocError> {
     for part in logs {
         if is_named(part, name) {
-            for kind in [Kind::Commit, Kind::Abort] {
-                let end = End {
-                    producer,
-                    epoch,
-                    kind,
-                };
-                push_stray(spots, part, name, end)?;
-            }
+            let mut end = End {
+                producer,
+                epoch,
+                kind: Kind::Commit,
+            };
+            push_stray(spots, part, name, end)?;
+            end.kind = Kind::Abort;
+            push_stray(spots, part, name, end)?;
         }
     }
     Ok(())

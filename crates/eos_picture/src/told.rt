@@ -81,8 +81,7 @@ fn push_place(
 {
     push_escaped(alloc, out, "", name.topic.as_slice())?;
     push_value(out, "-", &name.partition)?;
-    push_offset(out, offset)?;
-    Ok(())
+    push_offset(out, offset)
 }
 
 fn push_commit(
@@ -90,21 +89,15 @@ fn push_commit(
     out: &mut String,
     source: &PartitionName,
     committed: &i64,
+    fate: &str,
 ) -> Result<(), AllocError>
-    ensures { OnOk result (Adds (string_bytes out.old) (string_bytes out.new) (commit_text source.now committed.now)) }
+    ensures { OnOk result (Adds (string_bytes out.old) (string_bytes out.new) (commit_text source.now committed.now ++ fate.now)) }
 {
     push_escaped(alloc, out, "commit of ", source.topic.as_slice())?;
     push_value(out, "-", &source.partition)?;
     push_value(out, " at ", committed)?;
     push_text(out, ", ")?;
-    Ok(())
-}
-
-/// Adds a label and a few words.
-fn push_words(out: &mut String, label: &str, words: &str) -> Result<(), AllocError>
-    ensures { OnOk result (Adds (string_bytes out.old) (string_bytes out.new) (label.now ++ words.now)) }
-{
-    write!(out, "{label}{words}")
+    push_text(out, fate)
 }
 
 fn push_count(out: &mut String, count: u64) -> Result<(), AllocError>
@@ -116,38 +109,36 @@ fn push_count(out: &mut String, count: u64) -> Result<(), AllocError>
     write!(out, ", {count} times")
 }
 
+fn push_marker(out: &mut String, kind: Kind, count: u64) -> Result<(), AllocError>
+    ensures { OnOk result (Adds (string_bytes out.old) (string_bytes out.new) ((codes "end marker " ++ kind_words kind) ++ times_text count)) }
+{
+    push_value(out, "end marker ", &kind_words(kind))?;
+    push_count(out, count)
+}
+
 fn push_inputs(out: &mut String, fate: Fate, from: &i64, to: &i64) -> Result<(), AllocError>
     ensures { OnOk result (Adds (string_bytes out.old) (string_bytes out.new) (codes "inputs passed by its commit: " ++ (passed_text from.now to.now ++ (codes ", " ++ fate_words fate false)))) }
 {
     push_text(out, "inputs passed by its commit: ")?;
     push_passed(out, from, to)?;
-    push_words(out, ", ", fate_words(fate, false))?;
-    Ok(())
+    push_value(out, ", ", &fate_words(fate, false))
 }
 
 fn push_sign(alloc: Global, out: &mut String, sign: &Sign, is_open: bool) -> Result<(), AllocError>
     ensures { OnOk result (Adds (string_bytes out.old) (string_bytes out.new) (sign_text sign.now is_open)) }
 {
     match sign {
-        Sign::Decision { kind, .. } => push_words(out, "Prepare record: ", kind_words(*kind)),
-        Sign::Record { fate, .. } => push_words(out, "data record, ", fate_words(*fate, is_open)),
+        Sign::Decision { kind, .. } => push_value(out, "Prepare record: ", &kind_words(*kind)),
+        Sign::Record { fate, .. } => push_value(out, "data record, ", &fate_words(*fate, is_open)),
         Sign::Commit {
             fate,
             source,
             committed,
             ..
-        } => {
-            push_commit(alloc, out, source, committed)?;
-            push_text(out, fate_words(*fate, is_open))?;
-            Ok(())
-        }
+        } => push_commit(alloc, out, source, committed, fate_words(*fate, is_open)),
         Sign::Passed { fate, from, to } => push_inputs(out, *fate, from, to),
-        Sign::Marker { kind, count } => {
-            push_words(out, "end marker ", kind_words(*kind))?;
-            push_count(out, *count)?;
-            Ok(())
-        }
-        Sign::Missing(kind) => push_words(out, "missing: the end marker ", kind_words(*kind)),
+        Sign::Marker { kind, count } => push_marker(out, *kind, *count),
+        Sign::Missing(kind) => push_value(out, "missing: the end marker ", &kind_words(*kind)),
         Sign::Spot(_) => push_text(out, "what stands or is missing here"),
     }
 }
@@ -210,8 +201,7 @@ fn push_told(
     push_sign(alloc, out, &mark.sign, is_open)?;
     push_column(alloc, out, marked.column)?;
     push_when(out, marked.time)?;
-    push_text(out, fault_words(mark.is_of_fault))?;
-    Ok(())
+    push_text(out, fault_words(mark.is_of_fault))
 }
 
 /// The words.

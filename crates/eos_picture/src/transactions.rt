@@ -8,6 +8,7 @@ ghost use Rattle.eos_table.specs.declared.content.Content.TheVariants.{Of};
 ghost use Rattle.eos_table.specs.steps.Keys.{pair_cmp};
 ghost use Rattle.eos_picture.specs.Transactions.{column_between, column_at, undecided_column, AreColumns};
 
+use crate::growing::put;
 use crate::mark::{Column, Decided};
 use bytes::Bytes;
 use eos_base::{holds, in_order};
@@ -49,12 +50,12 @@ fn push_decided(
         kind,
         marker_epoch: value.epoch,
     };
-    columns.push(Column {
+    let column = Column {
         producer: value.producer,
         epoch: before.epoch,
         decided: Some(decided),
-    })?;
-    Ok(())
+    };
+    put(columns, column)
 }
 
 /// What a record says of a transactional id.
@@ -203,11 +204,12 @@ fn push_undecided_columns(
     ensures { OnOk result (columns.new.items ≡ columns.old.items ++ map undecided_column others.now) }
 {
     for writer in others {
-        columns.push(Column {
+        let column = Column {
             producer: writer.0,
             epoch: writer.1,
             decided: None,
-        })?;
+        };
+        put(columns, column)?;
     }
     Ok(())
 }

@@ -17,7 +17,7 @@ returns-clause-window c =
     record {
       every = every;
       are = c.in_ok-every.ensures;
-      all = c.len.ensures ∙ sym size;
+      all = c.len-all.ensures ∙ sym size;
       middle = middle;
       of_fault = record {
         inside = subst (λ z. IfSome middle (λ m. m < length z)) c.as_slice-2.ensures.value c.middle_of-middle.ensures.inside;

@@ -13,6 +13,6 @@ loop-writer-preserved c =
     let producer : FitsSigned w64 writer.0 = search rules in
     let epoch : FitsSigned w16 writer.1 = search rules in
     let next = undecided_column writer ∷ [] in
-    let pushed = simp to_z-of_z at c.in_ok-push.ensures.items in
+    let pushed = simp to_z-of_z at c.in_ok-put.ensures in
     pushed ∙ (ap (λ z. z ++ next) c.loop-writer.invariant
     ∙ (append_assoc start (map undecided_column (take i others)) next ∙ ap (λ z. start ++ z) (sym (map_next undecided_column others i (pos 0, pos 0) c.loop-writer-test.true))))
