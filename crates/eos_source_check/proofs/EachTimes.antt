@@ -18,7 +18,7 @@ use Rattle.eos_source_check.specs.Times.{begins_next, lies_in, some_lie_in, AreT
 use Rattle.eos_source_check.specs.steps.Each.{among, AreEachOf, AreEachAgain}
 use Rattle.eos_source_check.specs.steps.Timing.{AskedView, IsTimedAgain}
 use Rattle.eos_source_check.proofs.LogsAgain.{named_again}
-use Rattle.eos_source_check.proofs.TimesAgain.{Passed, none_passed, one_passed, all_passed, IsAhead, named, all_ahead}
+use Rattle.eos_source_check.proofs.TimesAgain.{Passed, none_passed, one_passed, all_passed, IsAhead, all_ahead}
 
 -- ---- the first time at an offset
 

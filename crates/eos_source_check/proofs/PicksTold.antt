@@ -3,7 +3,7 @@ use Rattle.std.proofs.Common.{◌≡◌, ◌∙◌, ◌<◌, ◌≤◌, ℕ, zer
 use Rattle.std.specs.Prelude.{slice_get, slice_set, nat_lt, if◌then◌else◌}
 use Rattle.std.specs.Option.{option_flatten}
 use Rattle.std.specs.Ordering.{int_eq}
-use Rattle.std.proofs.lemmas.List.{take_more, take_all, length-take-le}
+use Rattle.std.proofs.lemmas.List.{length-map, map_more, take_more, take_all, length-take-le}
 use Rattle.eos_batch.specs.Reading.{batch_at}
 use Rattle.eos_batch.specs.declared.batch.Batch.{Batch}
 use Rattle.eos_batch.specs.declared.fault.BatchFault.{BatchFault}
@@ -21,6 +21,9 @@ use Rattle.eos_source_check.specs.steps.Picking.{told_of, told_at}
 use Rattle.eos_source_check.specs.steps.PicksAgain.{byte_in, found_or, found_front, AreOfLog, ArePicksAgain, IsPickedAgain}
 use Rattle.eos_source_check.proofs.LogsAgain.{named_again, one_more}
 use Rattle.eos_source_check.proofs.PickedBatches.{none_past, there_is, same_read}
+
+pub map_next : {X Y : Type 0} (f : X → Y) (xs : List X) (i : ℕ) (d : X) (y : Y) (before now : List Y) → i < length xs → y ≡ f (get_or xs i d) → before ≡ map f (take i xs) → now ≡ before ++ y ∷ [] → now ≡ map f (take (i + 1) xs)
+map_next f xs i d y before now lt is so more = more ∙ ((λ k. so k ++ is k ∷ []) ∙ sym (map_more f xs i d lt))
 
 -- ---- what a segment tells is put
 
@@ -158,9 +161,16 @@ none_more places i now grown lt is more =
     one_longer (p ∷ ps) zero lt = ap (λ (x : Option (Option Batch)). x ∷ []) (sym (none_at p))
     one_longer (p ∷ ps) (suc n) lt = ap (λ (l : List (Option (Option Batch))). found_in [] p ∷ l) (one_longer ps n (omega (arith, lt)))
 
-pub one_pick : (known : ℕ → Known) (first : ℕ) (names : List Segment) (i : ℕ) (name : Segment) (places : List (Option Placed)) (before after told : List (Option (Option Batch))) (wanted : List (Option ℕ)) (base : ℤ) → i < length names → name ≡ get_or names i name
-    → wanted ≡ map (byte_in base) places → base ≡ name.base → AreOfLog (known (first + i)) wanted told → after ≡ found_front (length before) wanted told before → ArePicksAgain known first (take i names) places before → ArePicksAgain known first (take (i + 1) names) places after
-one_pick known first names i name places before after told wanted base lt is by_base own log put h =
+pub alike_long : (base : ℤ) (bytes : List ℕ) (ss : List Segment) (places : List (Option Placed)) (wanted lent : List (Option ℕ)) (told found : List (Option (Option Batch))) → lent ≡ wanted → wanted ≡ map (byte_in base) places → told ≡ map (told_at bytes) wanted
+    → found ≡ map (found_in ss) places → (length lent ≡ length found) × (length told ≡ length found)
+alike_long base bytes ss places wanted lent told found one by log are =
+    let asked : length wanted ≡ length places = ap length by ∙ length-map places (byte_in base) in
+    let before : length places ≡ length found = sym (ap length are ∙ length-map places (found_in ss)) in
+    (ap length one ∙ (asked ∙ before), ap length log ∙ (length-map wanted (told_at bytes) ∙ (asked ∙ before)))
+
+pub one_pick : (known : ℕ → Known) (first : ℕ) (names : List Segment) (i : ℕ) (name : Segment) (places : List (Option Placed)) (before after told : List (Option (Option Batch))) (wanted lent : List (Option ℕ)) (base : ℤ) → i < length names → name ≡ get_or names i name
+    → wanted ≡ map (byte_in base) places → base ≡ name.base → AreOfLog (known (first + i)) wanted told → lent ≡ wanted → after ≡ found_front (length before) lent told before → ArePicksAgain known first (take i names) places before → ArePicksAgain known first (take (i + 1) names) places after
+one_pick known first names i name places before after told wanted lent base lt is by_base own log same put h =
     let bytes : wanted ≡ map (byte_in name.base) places = by_base ∙ ap (λ (b : ℤ). map (byte_in b) places) own in
     let s : Segment = record { topic = name.topic; partition = name.partition; base = name.base; bytes = log.bytes } in
     let size : length (take i names) ≡ i = length-take-le i names (omega (arith, lt)) in
@@ -173,7 +183,7 @@ one_pick known first names i name places before after told wanted base lt is by_
     record {
       segments = h.segments ++ s ∷ [];
       again = subst (λ (ns : List Segment). AreLogsAgain known first ns (h.segments ++ s ∷ [])) more (one_more known first (take i names) h.segments name s h.again here);
-      are = put ∙ all;
+      are = put ∙ (ap (λ (ws : List (Option ℕ)). found_front (length before) ws told before) same ∙ all);
     }
 
 pub all_picks : (known : ℕ → Known) (first : ℕ) (shape : Partition) (names : List Segment) (i : ℕ) (places : List (Option Placed)) (found : List (Option (Option Batch))) → names ≡ shape.segments → length names ≤ i

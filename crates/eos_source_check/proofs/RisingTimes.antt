@@ -1,9 +1,9 @@
 -- Offsets that rise, and the times of a batch's records at them.
-use Rattle.std.proofs.Common.{◌≡◌, ◌<◌, ◌≤◌, ◌&&◌, ℕ, ℤ, zero, suc, ◌+◌, ◌-◌, List, [], ◌∷◌, ◌++◌, length, take, drop, get_or, flat_map, nat_lt, nat_le, Result, Ok, Err, Option, Some, None, Bool, true, false, cond, if◌then◌else◌, refl, sym, ap, subst, ◌∙◌, arith}
+use Rattle.std.proofs.Common.{◌≡◌, ◌<◌, ◌≤◌, ◌&&◌, ℕ, ℤ, zero, suc, ◌+◌, ◌-◌, List, [], ◌∷◌, ◌++◌, length, take, drop, get_or, flat_map, nat_lt, nat_le, Result, Ok, Err, Option, Some, None, Bool, true, false, cond, if◌then◌else◌, refl, sym, ap, subst, ◌∙◌, append_assoc, arith}
 use Rattle.std.specs.List.{filter}
 use Rattle.std.specs.List.Sorted.{IsNonDecreasing, IsSorted}
 use Rattle.std.specs.Ordering.{nat_cmp}
-use Rattle.std.proofs.lemmas.List.{append-nil}
+use Rattle.std.proofs.lemmas.List.{append-nil, drop_all, drop_more}
 use Rattle.std.proofs.lemmas.Bool.{le-leb, lt-leb, lt-ltb, le-ltb}
 use Rattle.std.proofs.lemmas.List.Sorted.{IsNonDecreasingBy-take, IsNonDecreasingBy-drop, IsNonDecreasingBy-from_sort}
 use Rattle.eos_batch.specs.declared.batch.Batch.{Batch}
@@ -16,6 +16,16 @@ use Rattle.eos_sought.specs.Wanted.{is_wanted}
 use Rattle.eos_source_check.specs.Timed.{timed, timed_by, all_timed_by}
 use Rattle.eos_source_check.specs.Times.{lies_in}
 use Rattle.eos_source_check.specs.steps.Rising.{AreBelow, AreFrom, timed_of}
+
+-- ---- one after the other
+
+pub flat_next : {X Y : Type 0} (f : X → List Y) (xs : List X) (i : ℕ) (d : X) (old now all : List Y) → i < length xs → now ≡ old ++ f (get_or xs i d) → old ++ flat_map f (drop i xs) ≡ all → now ++ flat_map f (drop (i + 1) xs) ≡ all
+flat_next f xs i d old now all lt is before =
+    let rest = flat_map f (drop (i + 1) xs) in
+    ap (λ z. z ++ rest) is ∙ (append_assoc old (f (get_or xs i d)) rest ∙ (ap (λ z. old ++ z) (sym (ap (flat_map f) (drop_more xs i d lt))) ∙ before))
+
+pub flat_done : {X Y : Type 0} (f : X → List Y) (xs : List X) (i : ℕ) (now all : List Y) → length xs ≤ i → now ++ flat_map f (drop i xs) ≡ all → now ≡ all
+flat_done f xs i now all le before = sym (append-nil now) ∙ (sym (ap (λ ys. now ++ flat_map f ys) (drop_all i xs le)) ∙ before)
 
 -- ---- a run of them
 

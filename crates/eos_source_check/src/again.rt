@@ -32,7 +32,10 @@ pub(crate) fn open_log<S: Source>(
 {
     match source.open(alloc, piece) {
         Ok(Piece::Log(reader)) => Ok(reader),
-        Ok(Piece::Fold(_)) => Err(Unlisted::Fold(piece)),
+        Ok(Piece::Fold(fold)) => {
+            drop(fold);
+            Err(Unlisted::Fold(piece))
+        }
         Err(fault) => Err(Unlisted::Refused(fault)),
     }
 }
@@ -146,7 +149,9 @@ fn faults_again<S: Source>(
     ensures earned { IfErr result (IsOfPartition (known_by (S.said source.now) (S.is_log source.now)) (S.outcomes source.now) first shape.now (Some (Some fault.now))) }
 {
     let folded = fold_again(alloc, source, shape, first)?;
-    let faults = faults_of_partition(alloc, &folded)?;
+    let faults = faults_of_partition(alloc, &folded);
+    drop(folded);
+    let faults = faults?;
     if begins_with(faults.as_slice(), fault) {
         Ok(faults)
     } else {

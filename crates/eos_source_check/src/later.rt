@@ -59,11 +59,9 @@ fn after_matching<R: Threads + Sync, S: FaultSink + Send>(
 {
     let faults = all_record_faults(crew.alloc, spec.apps().as_slice(), logs)?;
     if faults.is_empty() {
-        output_faults(crew, spec, logs, sink)?;
-        return Ok(());
+        return output_faults(crew, spec, logs, sink);
     }
-    take_records(faults, sink)?;
-    Ok(())
+    take_records(faults, sink)
 }
 
 /// Where the transaction log has no fault.
@@ -77,11 +75,9 @@ fn after_log<R: Threads + Sync, S: FaultSink + Send>(
 {
     let faults = all_match_faults(crew.alloc, logs)?;
     if faults.is_empty() {
-        after_matching(crew, spec, logs, sink)?;
-        return Ok(());
+        return after_matching(crew, spec, logs, sink);
     }
-    take_matching(faults, sink)?;
-    Ok(())
+    take_matching(faults, sink)
 }
 
 /// Hands to a sink every fault of the phases behind the first that stands in these logs, as if none had a fault by
@@ -105,9 +101,7 @@ pub fn later_faults<R: Threads + Sync, S: FaultSink + Send>(
     let logs = logs.parts.as_slice();
     let faults = all_log_faults(crew.alloc, logs)?;
     if faults.is_empty() {
-        after_log(crew, spec, logs, sink)?;
-        return Ok(());
+        return after_log(crew, spec, logs, sink);
     }
-    take_log(faults, sink)?;
-    Ok(())
+    take_log(faults, sink)
 }

@@ -62,5 +62,11 @@ pub(crate) fn verdict_and_notes<R: Threads + Sync>(
         { all_lines(alloc, spec, logs, epochs, quiet) },
     );
     let verdict = verdict?;
-    Ok((verdict, notes?))
+    match notes {
+        Ok(notes) => Ok((verdict, notes)),
+        Err(why) => {
+            drop(verdict);
+            Err(why)
+        }
+    }
 }

@@ -58,8 +58,13 @@ fn texts_of<S: Source>(
     let names = shape.segments.as_slice();
     let mut run = None;
     for i in 0..names.len() {
-        let next = texts_of_log(alloc, source, first + i as u64, &names[i])?;
-        run = Some(longer(alloc, run, next)?);
+        match texts_of_log(alloc, source, first + i as u64, &names[i]) {
+            Ok(next) => run = Some(longer(alloc, run, next)?),
+            Err(why) => {
+                drop(run);
+                return Err(why);
+            }
+        }
     }
     Ok(run)
 }
@@ -84,7 +89,10 @@ pub fn texts_again<S: Source>(
     };
     let partition = &shape.partitions()[index];
     let run = texts_of(alloc, source, partition, first)?;
-    let end = partition.end.clone()?;
+    let Ok(end) = partition.end.clone() else {
+        drop(run);
+        return Err(Unlisted::OutOfMemory);
+    };
     let asked = Asked {
         wanted: Wanted::Texts,
         topics: &[],

@@ -57,7 +57,10 @@ fn times_of_log<S: Source>(
                 Err(Unlisted::Refused(fault))
             }
         },
-        Ok(Piece::Fold(_)) => Ok(None),
+        Ok(Piece::Fold(fold)) => {
+            drop(fold);
+            Ok(None)
+        }
         Err(fault) => Err(Unlisted::Refused(fault)),
     }
 }

@@ -12,8 +12,8 @@ returns-in_err-folded-clause-earned g c =
     let p = err_from_is_err_and c.from_residual.result c.from_residual.ensures.1 in
     rw (p.1, p.2) (of_partition (g.S.Source.outcomes c.args.source.now) known c.args.first c.args.shape.now (Some (Some c.args.fault.now)) c.in_err-folded.field-0.0 c.in_err-folded.ensures.earned)
 
-pub returns-clause-earned : goal.returns-clause-earned
-returns-clause-earned g c =
+pub returns-else-begins_with-clause-earned : goal.returns-else-begins_with-clause-earned
+returns-else-begins_with-clause-earned g c =
     let faults = c.in_ok-faults.faults.items in
     let read = c.in_ok-folded.ensures.ok in (
       refl,

@@ -1,4 +1,5 @@
 use Rattle.std.proofs.Common.{◌≡◌, List, length, map, sym, subst, arith, ◌∙◌}
+use Rattle.std.proofs.lemmas.Result.{on_ok_weaker}
 use Rattle.eos_evidence.specs.declared.application.App.{App}
 use Rattle.eos_commits.specs.Faults.{visible_cmp, Stands}
 use Rattle.eos_base.specs.AllOf.{IsAllOf}
@@ -16,15 +17,14 @@ returns-then-is_empty g c =
     let ok = faults.ok in
     let len : faults.len ≡ length faults.items = omega (arith, ok) in
     let same = c.as_slice.ensures ∙ c.apps.ensures.value in
-    let told = c.in_ok-output_faults.ensures in
-    record {
+    on_ok_weaker c.output_faults.result (λ told. record {
       list = map Lineage told.0;
       taken = told.1;
       holds = λ order no_log no_match.
           let all = subst (λ (xs : List App). IsAllOf visible_cmp (Stands xs logs) faults.items) same (c.in_ok-faults.ensures order) in
           let none = none_there (Stands apps logs) faults.items faults.len len (sym c.is_empty.ensures ∙ c.if-is_empty.true) all in
           lineage_list apps logs told.0 no_log no_match (told.2 order none);
-    }
+    }) c.output_faults.ensures
 
 pub returns : goal.returns
 returns g c =
@@ -34,10 +34,10 @@ returns g c =
     let ok = faults.ok in
     let len : faults.len ≡ length faults.items = omega (arith, ok) in
     let same = c.as_slice.ensures ∙ c.apps.ensures.value in
-    record {
+    on_ok_weaker c.take_records.result (λ taken. record {
       list = map Lineage (map Record faults.items);
-      taken = c.in_ok-take_records.ensures;
+      taken = taken;
       holds = λ order no_log no_match.
           let all = subst (λ (xs : List App). IsAllOf visible_cmp (Stands xs logs) faults.items) same (c.in_ok-faults.ensures order) in
           lineage_list apps logs (map Record faults.items) no_log no_match (found_in_records apps logs faults.items faults.len len (sym c.is_empty.ensures ∙ c.if-is_empty.false) all);
-    }
+    }) c.take_records.ensures

@@ -1,4 +1,5 @@
 use Rattle.std.proofs.Common.{◌≡◌, List, length, map, sym, subst, arith, ◌∙◌}
+use Rattle.std.proofs.lemmas.Result.{on_ok_weaker}
 use Rattle.eos_check.specs.Verdicts.{StandsInLog}
 use Rattle.eos_check.proofs.TransactionLogInOrder.{log_in_order}
 use Rattle.eos_verdict.specs.declared.verdict.Fault.TheVariants.{Log}
@@ -14,8 +15,7 @@ returns-then-is_empty g c =
     let faults = c.in_ok-faults.faults in
     let ok = faults.ok in
     let len : faults.len ≡ length faults.items = omega (arith, ok) in
-    let told = c.in_ok-after_log.ensures in
-    record {
+    on_ok_weaker c.after_log.result (λ told. record {
       list = told.list;
       taken = told.taken;
       holds = λ order.
@@ -23,7 +23,7 @@ returns-then-is_empty g c =
           let all = c.in_ok-faults.ensures (log_in_order logs here) in
           subst (λ (ls : List PartLog). AreLaterFaults c.args.spec.now.apps ls told.list) c.as_slice-logs.ensures.value
           (told.holds here (none_there (StandsInLog logs) faults.items faults.len len (sym c.is_empty.ensures ∙ c.if-is_empty.true) all));
-    }
+    }) c.after_log.ensures
 
 pub returns : goal.returns
 returns g c =
@@ -31,11 +31,11 @@ returns g c =
     let faults = c.in_ok-faults.faults in
     let ok = faults.ok in
     let len : faults.len ≡ length faults.items = omega (arith, ok) in
-    record {
+    on_ok_weaker c.take_log.result (λ taken. record {
       list = map Log faults.items;
-      taken = c.in_ok-take_log.ensures;
+      taken = taken;
       holds = λ order.
           let here : AreInOrder logs = subst AreInOrder (sym c.as_slice-logs.ensures.value) order in
           subst (λ (ls : List PartLog). AreLaterFaults c.args.spec.now.apps ls (map Log faults.items)) c.as_slice-logs.ensures.value
           (found_in_log c.args.spec.now.apps logs faults.items faults.len len (sym c.is_empty.ensures ∙ c.if-is_empty.false) (c.in_ok-faults.ensures (log_in_order logs here)));
-    }
+    }) c.take_log.ensures

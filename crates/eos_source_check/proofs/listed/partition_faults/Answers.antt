@@ -1,4 +1,4 @@
-use Rattle.std.proofs.Common.{◌≡◌, List, length, take, option_map, ap, subst, ◌∙◌, arith, rules}
+use Rattle.std.proofs.Common.{◌≡◌, List, length, take, option_map, ap, subst, ◌∙◌, arith}
 use Rattle.std.proofs.lemmas.Result.{err_from_is_err_and}
 use Rattle.std.specs.List.{slice_get}
 use Rattle.eos_evidence.specs.declared.partition.Partition.{Partition}
@@ -65,5 +65,5 @@ returns-in_err-more-clause-earned g c =
 pub returns-clause-first : goal.returns-clause-first
 returns-clause-first g c =
     let all : length c.partitions-partitions.result.now ≡ length c.args.shape.now.partitions = ap length c.partitions-partitions.ensures.value in
-    let count : c.loop-i.i ≡ length c.args.shape.now.partitions = search (arith, rules, all) in
+    let count : c.loop-i.i ≡ length c.args.shape.now.partitions = omega (arith, all, c.loop-i-test.false, c.loop-i.auto.i-end) in
     c.loop-i.invariant.1 ∙ ap (λ n. first_found (take n c.args.found.now)) count

@@ -21,10 +21,10 @@ returns-clause-read g c =
     let shapes = c.partitions.result.now in
     let name = c.args.name.now in
     let p = c.index-partitions-index.result in
-    let end = c.in_ok-end.end in
+    let end = c.in-Ok.end in
     let found = c.in-Some.ensures.some in
     let of = c.partitions.ensures.value in
     let at = stands e shapes name c.in-Some.index c.in-Some.first p of found c.index-partitions-index.is in
     let own = is_partition e shapes c.in-Some.index p of c.partitions.ensures.evidence (inside e shapes name c.in-Some.index c.in-Some.first p of found) c.index-partitions-index.is in
-    let same = same_end end p.end c.in_ok-end.ensures.cases.0 c.in_ok-end.ensures.cases.1.0 c.in_ok-end.ensures.cases.1.1 in
+    let same = same_end end p.end c.in-Ok.ensures.cases.0 c.in-Ok.ensures.cases.1.0 c.in-Ok.ensures.cases.1.1 in
     named_texts (known_by (g.S.Source.said c.args.source.now) (g.S.Source.is_log c.args.source.now)) e.partitions name c.in-Some.index c.in-Some.first p end c.in_ok-run.run' c.in_ok-told.told found at own same c.in_ok-run.ensures.ok c.in_ok-told.ensures

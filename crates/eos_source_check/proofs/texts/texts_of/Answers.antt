@@ -1,5 +1,4 @@
-use Rattle.std.proofs.Common.{◌≡◌, ◌∷◌, [], length, ap, arith}
-use Rattle.std.proofs.lemmas.Result.{err_from_is_err_and}
+use Rattle.std.proofs.Common.{◌≡◌, ◌+◌, ◌∷◌, [], length, ap, arith}
 use Rattle.eos_source.specs.Said.{known_by}
 use Rattle.eos_source_check.specs.steps.TextsAgain.{texts_asked}
 use Rattle.eos_source_check.proofs.EarnedAgain.{of_pieces}
@@ -13,24 +12,23 @@ pub longer-requires : goal.longer-requires
 longer-requires g c =
     let topic = c.args.shape.now.end.topic in
     let same = own_topic c.args.shape.now c.as_slice-names.result.now c.loop-i.i c.index-names-i.result c.requires.partition c.as_slice-names.ensures c.loop-i-test.true c.index-names-i.is in
-    let one = c.in_ok-next.ensures.ok in
+    let one = c.in-Ok.ensures.ok in
     let h = c.loop-i.invariant in
-    (texts_asked topic, h.segments, one.segment ∷ [], h.held, of_topic _ c.index-names-i.result topic c.in_ok-next.next same one)
+    (texts_asked topic, h.segments, one.segment ∷ [], h.held, of_topic (known_by (g.S.Source.said c.args.source.now) (g.S.Source.is_log c.args.source.now) (c.args.first + c.loop-i.i)) c.index-names-i.result topic c.in-Ok.next same one)
 
 pub loop-i-preserved : goal.loop-i-preserved
 loop-i-preserved g c =
     let topic = c.args.shape.now.end.topic in
     let same = own_topic c.args.shape.now c.as_slice-names.result.now c.loop-i.i c.index-names-i.result c.requires.partition c.as_slice-names.ensures c.loop-i-test.true c.index-names-i.is in
-    let one = c.in_ok-next.ensures.ok in
+    let one = c.in-Ok.ensures.ok in
     let h = c.loop-i.invariant in
-    one_text (known_by (g.S.Source.said c.args.source.now) (g.S.Source.is_log c.args.source.now)) c.args.first c.as_slice-names.result.now topic c.loop-i.i c.index-names-i.result c.loop-i.run c.in_ok-next.next _ c.loop-i-test.true c.index-names-i.is one h
-    (c.in_ok-longer.ensures (texts_asked topic) h.segments (one.segment ∷ []) h.held (of_topic _ c.index-names-i.result topic c.in_ok-next.next same one))
+    one_text (known_by (g.S.Source.said c.args.source.now) (g.S.Source.is_log c.args.source.now)) c.args.first c.as_slice-names.result.now topic c.loop-i.i c.index-names-i.result c.loop-i.run c.in-Ok.next _ c.loop-i-test.true c.index-names-i.is one h
+    (c.in_ok-longer-in-Ok.ensures (texts_asked topic) h.segments (one.segment ∷ []) h.held (of_topic (known_by (g.S.Source.said c.args.source.now) (g.S.Source.is_log c.args.source.now) (c.args.first + c.loop-i.i)) c.index-names-i.result topic c.in-Ok.next same one))
 
-pub returns-in_err-next-clause-earned : goal.returns-in_err-next-clause-earned
-returns-in_err-next-clause-earned g c =
-    let p = err_from_is_err_and c.from_residual.result c.from_residual.ensures.1 in
+pub returns-in-Err-clause-earned : goal.returns-in-Err-clause-earned
+returns-in-Err-clause-earned g c =
     let count : length c.as_slice-names.result.now ≡ length c.args.shape.now.segments = ap length c.as_slice-names.ensures in
-    rw (p.1, p.2) (of_pieces (g.S.Source.outcomes c.args.source.now) c.args.first (length c.args.shape.now.segments) c.loop-i.i c.in_err-next.field-0.0 (omega (arith, count, c.loop-i-test.true)) c.in_err-next.ensures.earned)
+    of_pieces (g.S.Source.outcomes c.args.source.now) c.args.first (length c.args.shape.now.segments) c.loop-i.i c.in-Err.why (omega (arith, count, c.loop-i-test.true)) c.in-Err.ensures.earned
 
 pub returns-clause-ok : goal.returns-clause-ok
 returns-clause-ok g c =
