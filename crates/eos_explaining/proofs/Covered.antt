@@ -206,7 +206,7 @@ rows_split rows i row r lt is has =
       | inr (inr none) ↦ absurd none
     ]
 
-names_still : (read : List Folded) (names grown : List PartitionName) (name : Option PartitionName) → ((n : PartitionName) → Has names n → Has grown n) → IsNamedOrRead read names name → IsNamedOrRead read grown name
+pub names_still : (read : List Folded) (names grown : List PartitionName) (name : Option PartitionName) → ((n : PartitionName) → Has names n → Has grown n) → IsNamedOrRead read names name → IsNamedOrRead read grown name
 names_still read names grown None kept is = tt
 names_still read names grown (Some name) kept is = elim is [
   | inl was ↦ inl was
@@ -281,7 +281,8 @@ covered_if shapes before after names (Some name) are is = elim is [
   | inr has ↦ inr (are.none name has)
 ]
 
-pub rows_settled : (shapes : List Partition) (before after : List Folded) (names : List PartitionName) (rows : List Row) (more : Bool) → AreNamedOrRead before names name_in rows → (more ≡ false → AreAbsent shapes before after names) → SettledIf before after (λ all. AreCovered shapes all rows) more
-rows_settled shapes before after names rows more named absent = λ none.
+pub named_settled : (shapes : List Partition) (before after : List Folded) (names : List PartitionName) (own : Option PartitionName) (rows : List Row) (more : Bool) → IsNamedOrRead before names own → AreNamedOrRead before names name_in rows
+    → (more ≡ false → AreAbsent shapes before after names) → SettledIf before after (λ all. IsCoveredIf shapes all own × AreCovered shapes all rows) more
+named_settled shapes before after names own rows more this named absent = λ none.
     let are = absent none in
-    record { same = are.same; covers = λ row has. covered_if shapes before after names (name_in row) are (named row has) }
+    record { same = are.same; covers = (covered_if shapes before after names own are this, λ row has. covered_if shapes before after names (name_in row) are (named row has)) }

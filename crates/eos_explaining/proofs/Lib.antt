@@ -1,3 +1,4 @@
+mod LastCalls
 pub mod KindsCounted
 pub mod PickedFaults
 pub mod NamedFaults

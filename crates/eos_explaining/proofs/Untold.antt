@@ -2,7 +2,7 @@
 use Rattle.std.proofs.Common.{inl, inr, ℕ, true, List, length, Option, refl}
 use Rattle.eos_evidence.specs.declared.partition.Partition.{Partition}
 use Rattle.eos_evidence.specs.Evidence.{segments_of}
-use Rattle.eos_source.specs.Refusals.{AreOpened, IsRefusal}
+use Rattle.eos_source.specs.Refusals.{AreOpened}
 use Rattle.eos_source.specs.Said.{Known}
 use Rattle.eos_source_check.specs.Refusals.{IsUnread, IsUntold}
 use Rattle.eos_source_check.specs.declared.fault.Unlisted.{Unlisted}
@@ -10,9 +10,6 @@ use Rattle.eos_source_check.specs.declared.fault.Unlisted.TheVariants as unliste
 use Rattle.eos_source_check.specs.declared.judged.Judged.{Judged}
 use Rattle.eos_source_check.proofs.RefusalsTold.{earned_untold}
 use Rattle.eos_explaining.specs.steps.Untold.{IsAfter}
-
-pub unjudged : {F : Type 0} (outcomes : ℕ → Option F → Type 0) (IsMemory : F → Type 0) (pieces : ℕ) (why : F) → IsRefusal outcomes IsMemory pieces why → IsUntold outcomes IsMemory pieces true (unlisted.Refused why)
-unjudged outcomes IsMemory pieces why h = inl h
 
 unread : {F : Type 0} (outcomes : ℕ → Option F → Type 0) (IsMemory : F → Type 0) (pieces : ℕ) (why : Unlisted F) → AreOpened outcomes pieces → IsUnread outcomes pieces why → IsUntold outcomes IsMemory pieces true why
 unread outcomes IsMemory pieces (unlisted.Refused fault) opened h = inr (refl, opened, h.0, h.1, h.2)

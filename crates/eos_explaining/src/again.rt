@@ -11,7 +11,7 @@ ghost use Rattle.eos_sought.specs.Partitions.{partition_named};
 ghost use Rattle.eos_source.specs.Said.{Known, known_by};
 ghost use Rattle.eos_source_check.specs.Again.{AreFoldsNamed};
 ghost use Rattle.eos_source_check.specs.Refusals.{IsUnread};
-ghost use Rattle.eos_explaining.specs.steps.Again.{IsCovered, IsCoveredIf, AreAbsent, AreCovered, AreFoldsAt, ReadsMore, SettledIf};
+ghost use Rattle.eos_explaining.specs.steps.Again.{IsCovered, AreAbsent, AreNamedCovered, AreFoldsAt, ReadsMore, SettledIf};
 
 use crate::named::names_left;
 use eos_base::PartitionName;
@@ -25,20 +25,13 @@ use std::alloc::{AllocError, Global};
 use std::thread;
 use std::thread::Threads;
 
-/// Reads the partition of this name, if there is one. Whether there is.
-fn read_new<S: Source>(
-    alloc: Global,
-    pieces: &Pieces<'_, S>,
-    read: &mut Vec<Folded>,
-    name: &PartitionName,
-) -> Result<bool, Unlisted<S::Fault>>
-    requires { (ps : List Partition) → AreFolded ps read.old.items → partition_named name.now ps ≡ None }
-    ensures more { OnOk result (ReadsMore (known_by (S.said pieces.now.source.now) (S.is_log pieces.now.source.now)) pieces.now.shape.now.partitions read.old.items read.new.items) }
-    ensures same { IfOk result (λ more. more ≡ false → read.new.items ≡ read.old.items) }
-    ensures covered { OnOk result (IsCovered pieces.now.shape.now.partitions read.new.items name.now) }
-    ensures unread { IfErr result (IsUnread (S.outcomes pieces.now.source.now) (length (segments_of pieces.now.shape.now.partitions))) }
+/// Adds what was read of a partition, if it is there. Whether it is.
+fn push_folds(read: &mut Vec<Folded>, folds: Option<Folded>) -> Result<bool, AllocError>
+    ensures more { (known : ℕ → Known) (shapes : List Partition) (name : AName) → AreFoldsNamed known shapes name folds → OnOk result (ReadsMore known shapes read.old.items read.new.items) }
+    ensures covered { (known : ℕ → Known) (shapes : List Partition) (name : AName) → AreFoldsNamed known shapes name folds → ((ps : List Partition) → AreFolded ps read.old.items → partition_named name ps ≡ None) → OnOk result (IsCovered shapes read.new.items name) }
+    ensures absent { (known : ℕ → Known) (shapes : List Partition) (name : AName) → AreFoldsNamed known shapes name folds → IfOk result (λ more. more ≡ false → (read.new.items ≡ read.old.items) × (partition_named name shapes ≡ None)) }
 {
-    match folds_again(alloc, pieces.source, pieces.shape, name)? {
+    match folds {
         None => Ok(false),
         Some(folded) => {
             read.push(folded)?;
@@ -62,28 +55,8 @@ pub(crate) fn read_name<S: Source>(
     match folded_named(read.as_slice(), name) {
         Some(_folded) => Ok(false),
         None => {
-            let more = read_new(alloc, pieces, read, name)?;
-            Ok(more)
-        }
-    }
-}
-
-/// The same of the partition in which a fault stands, if it stands in one.
-pub(crate) fn read_own<S: Source>(
-    alloc: Global,
-    pieces: &Pieces<'_, S>,
-    read: &mut Vec<Folded>,
-    place: Option<&Place>,
-) -> Result<bool, Unlisted<S::Fault>>
-    ensures more { OnOk result (ReadsMore (known_by (S.said pieces.now.source.now) (S.is_log pieces.now.source.now)) pieces.now.shape.now.partitions read.old.items read.new.items) }
-    ensures covered { IfOk result (SettledIf read.old.items read.new.items (λ all. IsCoveredIf pieces.now.shape.now.partitions all (option_map (λ (p : At). p.partition) (option_copied place.entry)))) }
-    ensures unread { IfErr result (IsUnread (S.outcomes pieces.now.source.now) (length (segments_of pieces.now.shape.now.partitions))) }
-{
-    match place {
-        None => Ok(false),
-        Some(place) => {
-            let more = read_name(alloc, pieces, read, &place.partition)?;
-            Ok(more)
+            let folds = folds_again(alloc, pieces.source, pieces.shape, name)?;
+            Ok(push_folds(read, folds)?)
         }
     }
 }
@@ -101,20 +74,6 @@ fn folds_at<S: Source>(
     match names.get(number) {
         None => Ok(None),
         Some(name) => folds_again(alloc, pieces.source, pieces.shape, name),
-    }
-}
-
-/// Adds what was read of a partition, if it is there. Whether it is.
-fn push_folds(read: &mut Vec<Folded>, folds: Option<Folded>) -> Result<bool, AllocError>
-    ensures more { (known : ℕ → Known) (shapes : List Partition) (name : AName) → AreFoldsNamed known shapes name folds → OnOk result (ReadsMore known shapes read.old.items read.new.items) }
-    ensures absent { (known : ℕ → Known) (shapes : List Partition) (name : AName) → AreFoldsNamed known shapes name folds → IfOk result (λ more. more ≡ false → (read.new.items ≡ read.old.items) × (partition_named name shapes ≡ None)) }
-{
-    match folds {
-        None => Ok(false),
-        Some(folded) => {
-            read.push(folded)?;
-            Ok(true)
-        }
     }
 }
 
@@ -147,18 +106,30 @@ fn read_each<S: Source, R: Threads + Sync>(
     Ok(more)
 }
 
-/// Reads the partitions that these rows name, but for those that were read, as many at a time as there are threads. Whether one was read.
-pub(crate) fn read_rows<S: Source, R: Threads + Sync>(
+/// The partition in which a fault stands, if it stands in one.
+fn own_name(place: Option<&Place>) -> Option<&PartitionName>
+    ensures { option_copied result ≡ option_map (λ (p : At). p.partition) (option_copied place.entry) }
+{
+    match place {
+        None => None,
+        Some(place) => Some(&place.partition),
+    }
+}
+
+/// Reads the partitions that a fault and these rows name, but for those that were read, as many at a time as there are threads. Whether one
+/// was read.
+pub(crate) fn read_named<S: Source, R: Threads + Sync>(
     crew: &Crew<'_, R>,
     pieces: &Pieces<'_, S>,
     read: &mut Vec<Folded>,
+    place: Option<&Place>,
     rows: &[Row],
 ) -> Result<bool, Unlisted<S::Fault>>
     ensures more { OnOk result (ReadsMore (known_by (S.said pieces.now.source.now) (S.is_log pieces.now.source.now)) pieces.now.shape.now.partitions read.old.items read.new.items) }
-    ensures covered { IfOk result (SettledIf read.old.items read.new.items (λ all. AreCovered pieces.now.shape.now.partitions all rows.now)) }
+    ensures covered { IfOk result (SettledIf read.old.items read.new.items (λ all. AreNamedCovered pieces.now.shape.now.partitions all (option_copied place.entry) rows.now)) }
     ensures unread { IfErr result (IsUnread (S.outcomes pieces.now.source.now) (length (segments_of pieces.now.shape.now.partitions))) }
 {
-    let names = names_left(crew.alloc, read.as_slice(), rows)?;
+    let names = names_left(crew.alloc, read.as_slice(), own_name(place), rows)?;
     let names = names.as_slice();
     let mut more = false;
     let mut first = 0;

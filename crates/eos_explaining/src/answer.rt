@@ -65,8 +65,7 @@ fn noted(alloc: Global, spec: &Spec, judged: &Judged) -> Result<Vec<Note>, Alloc
     ensures { IfOk result (λ found. (e : EvidenceParts) → e.spec ≡ spec.now → IsJudgedFor judged.now e → AreAllNotes e found.items) }
 {
     let epochs = judged.epochs.as_slice();
-    let found = all_notes(alloc, spec, &judged.logs, epochs)?;
-    Ok(found)
+    all_notes(alloc, spec, &judged.logs, epochs)
 }
 
 /// The lines of these notes.
@@ -74,8 +73,7 @@ fn noted_lines(alloc: Global, spec: &Spec, judged: &Judged) -> Result<String, Al
     ensures { IfOk result (λ text. (e : EvidenceParts) → e.spec ≡ spec.now → IsJudgedFor judged.now e → IsAllNotesText e false (string_bytes text)) }
 {
     let epochs = judged.epochs.as_slice();
-    let text = all_lines(alloc, spec, &judged.logs, epochs, false)?;
-    Ok(text)
+    all_lines(alloc, spec, &judged.logs, epochs, false)
 }
 
 /// What was found in the evidence that was judged, with the faults that are picked: all are counted, and no others are held.
@@ -114,14 +112,6 @@ fn yes_of(alloc: Global, spec: &Spec, judged: &Judged) -> Result<Option<Answer>,
     }
 }
 
-/// This answer, which needs nothing more of what was judged.
-fn settled(answer: Answer, judged: Judged) -> Answer
-    ensures { result ≡ answer }
-{
-    drop(judged);
-    answer
-}
-
 /// The story of the fault of this number, which alone is held.
 fn told_of_number<S: Source, R: Threads + Sync>(
     crew: &Crew<'_, R>,
@@ -136,17 +126,16 @@ fn told_of_number<S: Source, R: Threads + Sync>(
     ensures told { IfOk result (λ text. HoldsByNamed (known_by (S.said pieces.now.source.now) (S.is_log pieces.now.source.now)) pieces.now.shape.now judged (λ e. IsTheStory asked.now.folder.now e asked.now.number (string_bytes text))) }
     ensures unread { IfErr result (IsUnread (S.outcomes pieces.now.source.now) (pieces_of pieces.now.shape.now)) }
 {
-    let mut read = Vec::new(crew.alloc);
     let told = found.told.as_slice();
     let parts = seen_logs(crew.alloc, pieces, parts_of(judged), told)?;
+    let mut read = Vec::new(crew.alloc);
     let about = About {
         folder: asked.folder,
         counts: found.line.as_str(),
         notes: found.notes.as_slice(),
         logs: parts.as_slice(),
     };
-    let story = story_of(crew, pieces, &mut read, &about, &told[0])?;
-    Ok(story)
+    story_of(crew, pieces, &mut read, &about, &told[0])
 }
 
 /// The answer where the verdict is no: the story of the fault of this number, or how many there are.
@@ -164,13 +153,23 @@ fn told_no<S: Source, R: Threads + Sync>(
         from: number.saturating_sub(1),
         most: 1,
     };
-    let found = found_in(crew, pieces, &judged, pick)?;
-    let count = found.all;
-    if number == 0 || number > count {
-        return Ok(Answer::Fewer(count));
+    match found_in(crew, pieces, &judged, pick) {
+        Ok(found) => {
+            let count = found.all;
+            if number == 0 || number > count {
+                drop(found);
+                drop(judged);
+                return Ok(Answer::Fewer(count));
+            }
+            let story = told_of_number(crew, pieces, judged, asked, &found);
+            drop(found);
+            Ok(Answer::Story(story?))
+        }
+        Err(why) => {
+            drop(judged);
+            Err(why)
+        }
     }
-    let story = told_of_number(crew, pieces, judged, asked, &found)?;
-    Ok(Answer::Story(story))
 }
 
 /// The answer of what was judged.
@@ -183,11 +182,15 @@ fn answer_judged<S: Source, R: Threads + Sync>(
     ensures answer { IfOk result (λ answer. HoldsByNamed (known_by (S.said pieces.now.source.now) (S.is_log pieces.now.source.now)) pieces.now.shape.now judged (λ e. IsAnswer asked.now.folder.now e asked.now.number answer)) }
     ensures refused { IfErr result (IsAfter (known_by (S.said pieces.now.source.now) (S.is_log pieces.now.source.now)) (S.outcomes pieces.now.source.now) pieces.now.shape.now.partitions judged) }
 {
-    match yes_of(crew.alloc, pieces.shape.spec(), &judged)? {
-        Some(answer) => Ok(settled(answer, judged)),
-        None => {
-            let answer = told_no(crew, pieces, judged, asked)?;
+    match yes_of(crew.alloc, pieces.shape.spec(), &judged) {
+        Ok(Some(answer)) => {
+            drop(judged);
             Ok(answer)
+        }
+        Ok(None) => told_no(crew, pieces, judged, asked),
+        Err(_) => {
+            drop(judged);
+            Err(Unlisted::OutOfMemory)
         }
     }
 }
@@ -196,7 +199,6 @@ fn answer_judged<S: Source, R: Threads + Sync>(
 /// there are. The verdict, the list and the records of the story are worked out of what is kept of its logs, as by `check`, and of the list
 /// only that fault is held. Only the partitions that the story names are read again: for the folds of their segments, by which its rows are
 /// found, and once more for the times of these; where it looks for claims, those too of whose topics no application is.
-#[tactic(auto, using(crate::proofs::Answered::of_judged, crate::proofs::Untold::unjudged))]
 pub(crate) fn explain<S: Source, R: Threads + Sync>(
     alloc: Global,
     threads: &R,
@@ -214,8 +216,7 @@ pub(crate) fn explain<S: Source, R: Threads + Sync>(
                 rt: threads,
                 workers: asked.workers,
             };
-            let answer = answer_judged(&crew, &pieces, judged, asked)?;
-            Ok(answer)
+            answer_judged(&crew, &pieces, judged, asked)
         }
         Err(fault) => Err(Unlisted::Refused(fault)),
     }

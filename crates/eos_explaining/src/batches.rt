@@ -66,12 +66,10 @@ fn push_touch(out: &mut String, head: &BatchHead) -> Result<(), AllocError>
 {
     push_value(out, " producer=", &head.producer)?;
     push_value(out, " epoch=", &head.epoch)?;
-    push_content(out, head)?;
-    Ok(())
+    push_content(out, head)
 }
 
 /// Adds the line of a batch.
-#[tactic(auto, unfolding(crate::specs::Batches::batch_line))]
 pub(crate) fn push_batch(
     alloc: Global,
     out: &mut String,
@@ -93,8 +91,7 @@ pub(crate) fn push_batch(
     )?;
     push_spot(out, Some(placed))?;
     push_touch(out, &head)?;
-    push_text(out, "\n")?;
-    Ok(())
+    push_text(out, "\n")
 }
 
 fn push_absent(out: &mut String, wanted: Wanted) -> Result<(), AllocError>
@@ -140,6 +137,5 @@ pub(crate) fn push_no_batch(
 {
     push_name(alloc, out, kind_role(wanted), name)?;
     push_absent(out, wanted)?;
-    push_text(out, "\n")?;
-    Ok(())
+    push_text(out, "\n")
 }

@@ -24,8 +24,7 @@ fn push_span(out: &mut String, from: &u64, to: &u64) -> Result<(), AllocError>
 {
     push_value(out, "Run: eoscheck dump --decode --from ", from)?;
     push_value(out, " --to ", to)?;
-    push_text(out, " ")?;
-    Ok(())
+    push_text(out, " ")
 }
 
 /// Adds the dump of the record at an offset of a partition, which stands in this segment.
@@ -80,7 +79,6 @@ fn push_first_command(
 }
 
 /// Adds the dump of a whole segment.
-#[tactic(auto, unfolding(crate::specs::Commands::segment_command))]
 fn push_segment_command(
     alloc: Global,
     out: &mut String,
@@ -92,12 +90,10 @@ fn push_segment_command(
 {
     push_text(out, "Run: eoscheck dump ")?;
     push_path(alloc, out, folder, name, base)?;
-    push_text(out, "\n")?;
-    Ok(())
+    push_text(out, "\n")
 }
 
 /// Adds the listing of a partition's folder.
-#[tactic(auto, unfolding(crate::specs::Commands::folder_command))]
 fn push_folder_command(
     alloc: Global,
     out: &mut String,
@@ -108,8 +104,7 @@ fn push_folder_command(
 {
     push_text(out, "Run: ls -l ")?;
     push_partition_path(alloc, out, folder, name)?;
-    push_text(out, "\n")?;
-    Ok(())
+    push_text(out, "\n")
 }
 
 /// Whether the segment is known that holds what a row is of.

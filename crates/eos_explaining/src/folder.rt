@@ -95,9 +95,18 @@ fn answer_folder<D: Disk, T: Watch, R: Threads + Sync>(
     ensures first { IfErr result (IsFirstAgain (D.holds folder.entry.disk.now) folder.entry.path.now) }
 {
     let shape = read_shape(alloc, folder.disk, folder.path, folder.watch)?;
-    let answer = answer_shape(alloc, threads, folder, &shape, which)?;
-    shape.listed?;
-    Ok(answer)
+    match answer_shape(alloc, threads, folder, &shape, which) {
+        Ok(answer) => {
+            drop(shape.evidence);
+            drop(shape.forms);
+            shape.listed?;
+            Ok(answer)
+        }
+        Err(fault) => {
+            drop(shape);
+            Err(fault)
+        }
+    }
 }
 
 /// Writes the text of an answer, if it has one.
@@ -186,6 +195,10 @@ pub fn explain_folder(
         Ok(Explained::Story) => 1,
         Ok(Explained::Fewer(count)) => end_fewer(rt, count),
         Err(Unexplained::CannotWrite) => end(rt, Ending::CannotWrite(STANDARD)),
-        Err(Unexplained::Refused(fault)) => end_unread(rt, Subject::Only, &fault),
+        Err(Unexplained::Refused(fault)) => {
+            let status = end_unread(rt, Subject::Only, &fault);
+            drop(fault);
+            status
+        }
     }
 }

@@ -251,31 +251,35 @@ impl FaultSink for Picked {
     }
 
     fn take(&mut self, fault: Fault) -> Result<(), AllocError> {
-        let is_asked = self.is_asked();
-        self.counts.take(kind_of(&fault))?;
-        if is_asked {
+        let kind = kind_of(&fault);
+        if self.is_asked() {
             self.told.push(Verdict::No(fault))?;
+            return self.counts.take(kind);
         }
-        Ok(())
+        drop(fault);
+        self.counts.take(kind)
     }
 
     /// It has names of its own only where it is held.
     fn take_output(&mut self, alloc: Global, fault: &LentOutput<'_>) -> Result<(), AllocError> {
-        let is_asked = self.is_asked();
-        self.counts.take(kind_of_output(fault.kind()))?;
-        if is_asked {
+        let output = kind_of_output(fault.kind());
+        if self.is_asked() {
             let fault = fault.own(alloc)?;
             self.told.push(Verdict::No(Fault::Lineage(fault)))?;
+            return self.counts.take(output);
         }
-        Ok(())
+        self.counts.take(output)
     }
 
     /// Of a share it takes the counts, and wants each fault where it holds one of them.
     fn join(&mut self, share: Picked) -> Result<bool, AllocError> {
         if !self.is_apart(share.counts.all) {
+            drop(share);
             return Ok(false);
         }
-        self.counts.join(&share.counts)?;
+        let joined = self.counts.join(&share.counts);
+        drop(share);
+        joined?;
         Ok(true)
     }
 
@@ -292,8 +296,7 @@ fn push_count(out: &mut String, number: u8, kind: &KindCount) -> Result<(), Allo
     push_value(out, ", ", &kind.count)?;
     push_value(out, " of ", &kind.phase)?;
     push_value(out, ".", &number)?;
-    push_value(out, " ", &kind.name)?;
-    Ok(())
+    push_value(out, " ", &kind.name)
 }
 
 fn push_kind(out: &mut String, counts: &KindCounts, number: u8) -> Result<(), AllocError>
@@ -320,8 +323,7 @@ fn push_counts(out: &mut String, counts: &KindCounts) -> Result<(), AllocError>
     push_value(out, "Faults: ", &counts.all)?;
     push_text(out, " in all")?;
     push_kinds(out, counts, &[1u8, 2, 3, 4, 5, 6, 7, 8, 9, 10, 11, 12])?;
-    push_text(out, "\n")?;
-    Ok(())
+    push_text(out, "\n")
 }
 
 /// The line of how many faults there are, and of which kinds.

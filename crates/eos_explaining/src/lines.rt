@@ -46,8 +46,7 @@ fn push_terms_left(out: &mut String, line: &str) -> Result<(), AllocError>
     ensures { OnOk result (Adds (string_bytes out.old) (string_bytes out.new) (terms_left line.now)) }
 {
     push_value(out, ".. and ", &terms_behind(line))?;
-    push_text(out, " more")?;
-    Ok(())
+    push_text(out, " more")
 }
 
 /// Adds a line as far as its twentieth part, and how many more it has.

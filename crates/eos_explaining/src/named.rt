@@ -16,7 +16,7 @@ use eos_sought::{Folded, folded_named};
 use eos_story::{Row, name_in};
 use std::alloc::{AllocError, Global};
 
-fn is_same(one: &PartitionName, other: &PartitionName) -> bool
+pub(crate) fn is_same(one: &PartitionName, other: &PartitionName) -> bool
     ensures { result ≡ (is_eq (slice_cmp nat_cmp one.now.topic other.now.topic) && int_eq one.now.partition other.now.partition) }
 {
     one.topic.as_slice().cmp(other.topic.as_slice()).is_eq() && one.partition == other.partition
@@ -63,15 +63,18 @@ fn push_left(
     }
 }
 
-/// The partitions that these rows name, but for those that were read.
+/// This one and the partitions that these rows name, but for those that were read.
 pub(crate) fn names_left(
     alloc: Global,
     read: &[Folded],
+    own: Option<&PartitionName>,
     rows: &[Row],
 ) -> Result<Vec<PartitionName>, AllocError>
-    ensures { IfOk result (λ names. AreNamedOrRead read.now names.items name_in rows.now) }
+    ensures own { IfOk result (λ names. IsNamedOrRead read.now names.items (option_copied own.entry)) }
+    ensures rows { IfOk result (λ names. AreNamedOrRead read.now names.items name_in rows.now) }
 {
     let mut names = Vec::new(alloc);
+    push_left(&mut names, read, own)?;
     for row in rows {
         push_left(&mut names, read, name_in(row))?;
     }

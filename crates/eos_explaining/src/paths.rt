@@ -121,7 +121,6 @@ fn push_number(alloc: Global, out: &mut String, base: u64) -> Result<(), AllocEr
 }
 
 /// Adds the path of a segment.
-#[tactic(auto, unfolding(crate::specs::Commands::path_text))]
 pub(crate) fn push_path(
     alloc: Global,
     out: &mut String,
@@ -138,12 +137,10 @@ pub(crate) fn push_path(
     push_text(out, "/")?;
     push_number(alloc, out, base)?;
     push_text(out, ".log")?;
-    push_text(out, quote)?;
-    Ok(())
+    push_text(out, quote)
 }
 
 /// Adds the path of a partition's folder.
-#[tactic(auto, unfolding(crate::specs::Commands::partition_path))]
 pub(crate) fn push_partition_path(
     alloc: Global,
     out: &mut String,
@@ -156,6 +153,5 @@ pub(crate) fn push_partition_path(
     push_text(out, quote)?;
     push_text(out, folder_text(folder))?;
     push_name(alloc, out, "/", name)?;
-    push_text(out, quote)?;
-    Ok(())
+    push_text(out, quote)
 }

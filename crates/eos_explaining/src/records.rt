@@ -116,7 +116,6 @@ fn push_said(
 }
 
 /// Adds the line of a data record.
-#[tactic(auto, unfolding(crate::specs::Records::record_line))]
 pub(crate) fn push_record(
     alloc: Global,
     out: &mut String,
@@ -135,8 +134,7 @@ pub(crate) fn push_record(
     push_writer(out, item.writer)?;
     push_fate(out, item.fate)?;
     let reading = reading_of(sought, find.partition.topic.as_slice());
-    push_said(alloc, out, reading, item)?;
-    Ok(())
+    push_said(alloc, out, reading, item)
 }
 
 fn push_group_past(
@@ -148,8 +146,7 @@ fn push_group_past(
     ensures { OnOk result (Adds (string_bytes out.old) (string_bytes out.new) (absent_text (Passing group.now place.now))) }
 {
     push_escaped(alloc, out, "none of group ", group)?;
-    push_at(alloc, out, " goes past ", &place.partition, &place.offset)?;
-    Ok(())
+    push_at(alloc, out, " goes past ", &place.partition, &place.offset)
 }
 
 fn push_group_up_to(
@@ -167,8 +164,7 @@ fn push_group_up_to(
         " is at or below ",
         &place.partition,
         &place.offset,
-    )?;
-    Ok(())
+    )
 }
 
 fn push_none_before(
@@ -180,8 +176,7 @@ fn push_none_before(
     ensures { OnOk result (Adds (string_bytes out.old) (string_bytes out.new) (absent_text (Before id.now place.now))) }
 {
     push_escaped(alloc, out, "none of id ", id)?;
-    push_at(alloc, out, " before ", &place.partition, &place.offset)?;
-    Ok(())
+    push_at(alloc, out, " before ", &place.partition, &place.offset)
 }
 
 fn push_none_alike(
@@ -193,8 +188,7 @@ fn push_none_alike(
     ensures { OnOk result (Adds (string_bytes out.old) (string_bytes out.new) (absent_text (Alike place.now output.now))) }
 {
     push_at(alloc, out, "none is like ", &place.partition, &place.offset)?;
-    push_value(out, " output ", output)?;
-    Ok(())
+    push_value(out, " output ", output)
 }
 
 fn push_none_within(out: &mut String, epochs: &Epochs) -> Result<(), AllocError>
@@ -202,8 +196,7 @@ fn push_none_within(out: &mut String, epochs: &Epochs) -> Result<(), AllocError>
 {
     push_value(out, "none of producer ", &epochs.producer)?;
     push_value(out, " from epoch ", &epochs.from)?;
-    push_value(out, " to ", &epochs.to)?;
-    Ok(())
+    push_value(out, " to ", &epochs.to)
 }
 
 fn push_absent(alloc: Global, out: &mut String, sought: &Sought) -> Result<(), AllocError>
@@ -250,8 +243,7 @@ fn push_undecided(out: &mut String, producer: &i64, epoch: &i16) -> Result<(), A
     ensures { OnOk result (Adds (string_bytes out.old) (string_bytes out.new) (absent_text (Deciding producer.now epoch.now))) }
 {
     push_value(out, "nothing of producer ", producer)?;
-    push_value(out, " with marker epoch ", epoch)?;
-    Ok(())
+    push_value(out, " with marker epoch ", epoch)
 }
 
 /// Adds the line that says that no data record is sought so.
@@ -264,6 +256,5 @@ pub(crate) fn push_no_record(
 {
     push_text(out, role_of(sought))?;
     push_absent(alloc, out, sought)?;
-    push_text(out, "\n")?;
-    Ok(())
+    push_text(out, "\n")
 }

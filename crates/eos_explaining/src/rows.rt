@@ -20,8 +20,7 @@ pub(crate) fn push_more(out: &mut String, shown: u64, all: u64) -> Result<(), Al
     ensures { OnOk result (Adds (string_bytes out.old) (string_bytes out.new) (more_line shown all)) }
 {
     push_value(out, ".. and ", &all.saturating_sub(shown))?;
-    push_text(out, " more\n")?;
-    Ok(())
+    push_text(out, " more\n")
 }
 
 /// Adds how many more there are than are shown, behind what they are.
@@ -29,8 +28,7 @@ fn push_more_of(out: &mut String, role: &str, shown: u64, all: u64) -> Result<()
     ensures { OnOk result (Adds (string_bytes out.old) (string_bytes out.new) (role.now ++ more_line shown all)) }
 {
     push_text(out, role)?;
-    push_more(out, shown, all)?;
-    Ok(())
+    push_more(out, shown, all)
 }
 
 fn push_segment(
@@ -45,8 +43,7 @@ fn push_segment(
     push_name(alloc, out, " segment  ", name)?;
     push_value(out, " segment ", &base)?;
     push_value(out, " of bytes=", &size)?;
-    push_text(out, "\n")?;
-    Ok(())
+    push_text(out, "\n")
 }
 
 fn push_end(
@@ -59,8 +56,7 @@ fn push_end(
 {
     push_name(alloc, out, " end      ", name)?;
     push_value(out, " is declared to end at ", end)?;
-    push_text(out, "\n")?;
-    Ok(())
+    push_text(out, "\n")
 }
 
 // ---- headers
@@ -130,8 +126,7 @@ fn push_header(
 {
     push_value(out, " header   ", &name.key())?;
     push_values(out, width_of(name), values)?;
-    push_text(out, "\n")?;
-    Ok(())
+    push_text(out, "\n")
 }
 
 // ---- all

@@ -5,7 +5,7 @@ ghost use Rattle.std.specs.Prelude.{◌≡◌, length, IfOk, IfErr};
 ghost use Rattle.eos_evidence.specs.Evidence.{IsEvidence, segments_of};
 ghost use Rattle.eos_source.specs.Said.{known_by};
 ghost use Rattle.eos_source_check.specs.Refusals.{IsUnread};
-ghost use Rattle.eos_explaining.specs.steps.Seen.{AreTextsBy, IsSeenBy, AreAllSeenBy, AreSeenBy};
+ghost use Rattle.eos_explaining.specs.steps.Seen.{AreTextsBy, texts_or, IsSeenBy, AreAllSeenBy, AreSeenBy};
 
 use eos_base::PartitionName;
 use eos_check::Verdict;
@@ -43,20 +43,23 @@ fn name_of(part: &Part) -> Result<PartitionName, AllocError>
     })
 }
 
-/// The keys, values and claims of a log of whose topic no application is, of its partition, which is read again.
+/// The keys, values and claims of a log of whose topic no application is, of its partition, which is read again; none where there is no
+/// such partition.
 fn texts_of<S: Source>(
     alloc: Global,
     pieces: &Pieces<'_, S>,
-    part: Part,
-) -> Result<Part, Unlisted<S::Fault>>
+    part: &Part,
+) -> Result<Option<Part>, Unlisted<S::Fault>>
     requires { IsEvidence pieces.now.shape.now }
-    ensures seen { IfOk result (AreTextsBy (known_by (S.said pieces.now.source.now) (S.is_log pieces.now.source.now)) pieces.now.shape.now part) }
+    ensures seen { IfOk result (λ texts. AreTextsBy (known_by (S.said pieces.now.source.now) (S.is_log pieces.now.source.now)) pieces.now.shape.now part.now (texts_or part.now texts)) }
     ensures unread { IfErr result (IsUnread (S.outcomes pieces.now.source.now) (length (segments_of pieces.now.shape.now.partitions))) }
 {
-    let name = name_of(&part)?;
-    match texts_again(alloc, pieces.source, pieces.shape, &name)? {
-        None => Ok(part),
-        Some(told) => Ok(told.part),
+    let name = name_of(part)?;
+    let told = texts_again(alloc, pieces.source, pieces.shape, &name);
+    drop(name);
+    match told? {
+        None => Ok(None),
+        Some(told) => Ok(Some(told.part)),
     }
 }
 
@@ -72,8 +75,17 @@ fn seen_of<S: Source>(
     if is_judged(apps, part.topic().as_slice()) {
         return Ok(part);
     }
-    let texts = texts_of(alloc, pieces, part)?;
-    Ok(texts)
+    match texts_of(alloc, pieces, &part) {
+        Ok(None) => Ok(part),
+        Ok(Some(texts)) => {
+            drop(part);
+            Ok(texts)
+        }
+        Err(why) => {
+            drop(part);
+            Err(why)
+        }
+    }
 }
 
 /// These logs, with the keys, values and claims of those of whose topics no application is.
@@ -97,7 +109,8 @@ fn all_seen<S: Source>(
 pub(crate) fn parts_of(judged: Judged) -> Vec<Part>
     ensures { result.items ≡ judged.logs.parts.items }
 {
-    let Judged { logs, .. } = judged;
+    let Judged { logs, verdict, .. } = judged;
+    drop(verdict);
     let Logs { parts, .. } = logs;
     parts
 }
@@ -112,9 +125,8 @@ pub(crate) fn seen_logs<S: Source>(
     ensures seen { IfOk result (λ seen. AreSeenBy (known_by (S.said pieces.now.source.now) (S.is_log pieces.now.source.now)) pieces.now.shape.now parts.items seen.items) }
     ensures unread { IfErr result (IsUnread (S.outcomes pieces.now.source.now) (length (segments_of pieces.now.shape.now.partitions))) }
 {
-    if !is_of_claims(told) {
-        return Ok(parts);
+    if is_of_claims(told) {
+        return all_seen(alloc, pieces, parts);
     }
-    let seen = all_seen(alloc, pieces, parts)?;
-    Ok(seen)
+    Ok(parts)
 }

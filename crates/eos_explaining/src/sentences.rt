@@ -34,8 +34,7 @@ fn push_segment_place(
     ensures { OnOk result (Adds (string_bytes out.old) (string_bytes out.new) (segment_place name.now base)) }
 {
     push_name(alloc, out, "", name)?;
-    push_value(out, " segment ", &base)?;
-    Ok(())
+    push_value(out, " segment ", &base)
 }
 
 /// Adds the place that a row is of.
@@ -73,8 +72,7 @@ fn push_case(alloc: Global, out: &mut String, case: &Case, row: &Row) -> Result<
     push_row_place(alloc, out, row)?;
     push_text(out, "\nNext: ")?;
     push_text(out, case.next)?;
-    push_text(out, "\n")?;
-    Ok(())
+    push_text(out, "\n")
 }
 
 fn push_kind(out: &mut String, page: &Page) -> Result<(), AllocError>
@@ -84,8 +82,7 @@ fn push_kind(out: &mut String, page: &Page) -> Result<(), AllocError>
     push_text(out, page.means)?;
     push_text(out, "\nNext: ")?;
     push_text(out, page.next)?;
-    push_text(out, "\n")?;
-    Ok(())
+    push_text(out, "\n")
 }
 
 fn push_by(

@@ -73,17 +73,16 @@ fn of_findings<S: Source, R: Threads + Sync>(
         → HoldsByNamed (known_by (S.said pieces.now.source.now) (S.is_log pieces.now.source.now)) pieces.now.shape.now judged (λ e. AreFirstStories folder.now e most (map string_bytes texts.items))) }
     ensures unread { IfErr result (IsUnread (S.outcomes pieces.now.source.now) (pieces_of pieces.now.shape.now)) }
 {
-    let mut read = Vec::new(crew.alloc);
     let told = found.told.as_slice();
     let parts = seen_logs(crew.alloc, pieces, parts_of(judged), told)?;
+    let mut read = Vec::new(crew.alloc);
     let about = About {
         folder,
         counts: found.line.as_str(),
         notes: found.notes.as_slice(),
         logs: parts.as_slice(),
     };
-    let texts = told_each(crew, pieces, &mut read, &about, told)?;
-    Ok(texts)
+    told_each(crew, pieces, &mut read, &about, told)
 }
 
 /// The stories of the first faults of what was judged.
@@ -98,13 +97,20 @@ fn of_judged<S: Source, R: Threads + Sync>(
     ensures refused { IfErr result (IsAfter (known_by (S.said pieces.now.source.now) (S.is_log pieces.now.source.now)) (S.outcomes pieces.now.source.now) pieces.now.shape.now.partitions judged) }
 {
     let pick = Pick { from: 0, most };
-    let found = found_in(crew, pieces, &judged, pick)?;
-    let texts = of_findings(crew, pieces, judged, folder, &found)?;
-    Ok(texts)
+    match found_in(crew, pieces, &judged, pick) {
+        Ok(found) => {
+            let texts = of_findings(crew, pieces, judged, folder, &found);
+            drop(found);
+            Ok(texts?)
+        }
+        Err(why) => {
+            drop(judged);
+            Err(why)
+        }
+    }
 }
 
 /// Reads the pieces, each once, and tells.
-#[tactic(auto, using(crate::proofs::Answered::of_judged, crate::proofs::Untold::unjudged))]
 fn of_source<S: Source, R: Threads + Sync>(
     alloc: Global,
     threads: &R,
@@ -123,8 +129,7 @@ fn of_source<S: Source, R: Threads + Sync>(
                 rt: threads,
                 workers: first.workers,
             };
-            let texts = of_judged(&crew, &pieces, judged, folder, first.most as u64)?;
-            Ok(texts)
+            of_judged(&crew, &pieces, judged, folder, first.most as u64)
         }
         Err(fault) => Err(Unlisted::Refused(fault)),
     }
@@ -175,7 +180,16 @@ pub fn first_stories<D: Disk, T: Watch, R: Threads + Sync>(
     ensures first { IfErr result (IsFirstAgain (D.holds folder.entry.disk.now) folder.entry.path.now) }
 {
     let shape = read_shape(alloc, folder.disk, folder.path, folder.watch)?;
-    let texts = of_shape(alloc, threads, folder, &shape, first)?;
-    shape.listed?;
-    Ok(texts)
+    match of_shape(alloc, threads, folder, &shape, first) {
+        Ok(texts) => {
+            drop(shape.evidence);
+            drop(shape.forms);
+            shape.listed?;
+            Ok(texts)
+        }
+        Err(fault) => {
+            drop(shape);
+            Err(fault)
+        }
+    }
 }

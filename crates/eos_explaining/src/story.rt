@@ -11,9 +11,9 @@ ghost use Rattle.eos_source.specs.Said.{known_by};
 ghost use Rattle.eos_source_check.specs.Refusals.{IsUnread};
 ghost use Rattle.eos_story.specs.PlaceOfFault.{place_of as place_of_fault};
 ghost use Rattle.eos_explaining.specs.Explaining.{code_of};
-ghost use Rattle.eos_explaining.specs.steps.Again.{AreNamedCovered, AreHeadersThere, ReadsMore, SettledIf, IsToldBy};
+ghost use Rattle.eos_explaining.specs.steps.Again.{AreHeadersThere, ReadsMore, IsToldBy};
 
-use crate::again::{read_own, read_rows};
+use crate::again::read_named;
 use crate::headers::own_headers;
 use crate::times::row_times;
 use crate::{Story, story_text};
@@ -58,23 +58,6 @@ struct Of<'a> {
     fault: &'a Fault,
     place: &'a Option<Place>,
     headers: &'a [Header],
-}
-
-/// Reads the partitions that a fault and these rows name, but for those that were read. Whether one was read now.
-fn read_named<S: Source, R: Threads + Sync>(
-    crew: &Crew<'_, R>,
-    pieces: &Pieces<'_, S>,
-    read: &mut Vec<Folded>,
-    place: Option<&Place>,
-    rows: &[Row],
-) -> Result<bool, Unlisted<S::Fault>>
-    ensures more { OnOk result (ReadsMore (known_by (S.said pieces.now.source.now) (S.is_log pieces.now.source.now)) pieces.now.shape.now.partitions read.old.items read.new.items) }
-    ensures covered { IfOk result (SettledIf read.old.items read.new.items (λ all. AreNamedCovered pieces.now.shape.now.partitions all (option_copied place.entry) rows.now)) }
-    ensures unread { IfErr result (IsUnread (S.outcomes pieces.now.source.now) (length (segments_of pieces.now.shape.now.partitions))) }
-{
-    let first = read_own(crew.alloc, pieces, read, place)?;
-    let more = read_rows(crew, pieces, read, rows)?;
-    Ok(first || more)
 }
 
 /// The story by the partitions that were read, unless it names others; these are read then.
@@ -174,8 +157,7 @@ pub(crate) fn story_of<S: Source, R: Threads + Sync>(
                 place: &place,
                 headers: headers.as_slice(),
             };
-            let text = told_of(crew, pieces, read, about, of)?;
-            Ok(text)
+            told_of(crew, pieces, read, about, of)
         }
     }
 }

@@ -11,7 +11,7 @@ ghost use Rattle.eos_source_check.specs.Picked.{batch_at, ArePickedOf};
 ghost use Rattle.eos_source_check.specs.Refusals.{IsUnread};
 ghost use Rattle.eos_explaining.specs.steps.Times.{name_if, timed_in, spot_of, time_by, is_timed_in, spot_in, time_put, times_put, first_known, known_times, ArePickedAt, AreRowTimes, TimesMore, TimesPut};
 
-use crate::named::names_timed;
+use crate::named::{is_same, names_timed};
 use eos_base::PartitionName;
 use eos_batch::Batch;
 use eos_faults::Crew;
@@ -100,10 +100,7 @@ fn is_in(name: &PartitionName, row: &Row) -> bool
 {
     match timed_in(row) {
         None => false,
-        Some(own) => {
-            name.topic.as_slice().cmp(own.topic.as_slice()).is_eq()
-                && name.partition == own.partition
-        }
+        Some(own) => is_same(name, own),
     }
 }
 

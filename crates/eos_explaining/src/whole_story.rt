@@ -80,8 +80,7 @@ fn push_rows(
 {
     let lines = told_lines(alloc, story.place, times, story.rows)?;
     push_joined(out, shown_lines(lines.as_slice()))?;
-    push_rest(out, MOST_ROWS, lines.len())?;
-    Ok(())
+    push_rest(out, MOST_ROWS, lines.len())
 }
 
 /// What the fault means and what to do next, by the rows that are shown.
@@ -109,8 +108,7 @@ fn push_notes(alloc: Global, out: &mut String, notes: &[Note]) -> Result<(), All
 {
     let lines = note_lines(alloc, &notes[..MOST_NOTES.min(notes.len())])?;
     push_text(out, lines.as_str())?;
-    push_rest(out, MOST_NOTES, notes.len())?;
-    Ok(())
+    push_rest(out, MOST_NOTES, notes.len())
 }
 
 /// The command to run next.

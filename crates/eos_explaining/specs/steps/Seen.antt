@@ -1,5 +1,5 @@
 -- The logs as stories see them, by partitions that were read once more for them.
-use Rattle.std.specs.Prelude.{◌≡◌, ◌++◌, ℕ, List, length, take}
+use Rattle.std.specs.Prelude.{◌≡◌, ◌++◌, ℕ, List, Option, None, Some, length, take}
 use Rattle.eos_commits.specs.EvidenceLogs.{AreLogsOf}
 use Rattle.eos_evidence.specs.declared.partition.Partition.{Partition}
 use Rattle.eos_evidence.specs.Evidence.{EvidenceParts, IsEvidence}
@@ -17,6 +17,11 @@ pub record AreTextsBy (known : ℕ → Known) (shape : EvidenceParts) (part seen
   pub also : List Partition
   pub read : AreRead known shape.partitions also
   pub are : (e : EvidenceParts) (log : PartLog) → IsEvidence e → e.spec ≡ shape.spec → HasThem e also → IsItsLog e part log → seen ≡ wanted_log Texts log
+
+-- these, or where there are none, what was there
+abbrev pub texts_or : PartLog → Option PartLog → PartLog
+texts_or part None = part
+texts_or part (Some texts) = texts
 
 -- one log
 pub record IsSeenBy (known : ℕ → Known) (shape : EvidenceParts) (part seen : PartLog) : Type 0 where

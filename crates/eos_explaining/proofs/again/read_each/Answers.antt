@@ -24,7 +24,7 @@ loop-folds-preserved-then-more g c =
     let gives = c.into_iter-folds-iterator.ensures.into_iter_gives in
     let yields = YieldsList-from_vec {s = c.into_iter-folds-iterator.result} c.in_ok-fetched.fetched.items gives.0 (gives.1 ∙ c.in_ok-fetched.fetched.ok.0) in
     let turn = YieldsList-turn yields c.loop-folds.yielded c.loop-folds.folds-iterator c.loop-folds.yielded_by c.next.result c.next.new.self c.in-Some.folds c.in-Some.is c.next.ensures.steps in
-    let lt : i < length names = search rules in
+    let lt : i < length names = omega (arith, turn.0, c.in_ok-fetched.ensures.len, c.in_ok-fetched.fetched.ok.0) in
     let at = there names i lt in
     let given : IfOk (slice_index_or c.in_ok-fetched.fetched.items i c.in-Some.folds) (AreFoldsAt known shapes names i) =
     let each = c.in_ok-fetched.ensures.each i c.in-Some.folds lt in search rules in
@@ -46,7 +46,7 @@ loop-folds-preserved g c =
     let gives = c.into_iter-folds-iterator.ensures.into_iter_gives in
     let yields = YieldsList-from_vec {s = c.into_iter-folds-iterator.result} c.in_ok-fetched.fetched.items gives.0 (gives.1 ∙ c.in_ok-fetched.fetched.ok.0) in
     let turn = YieldsList-turn yields c.loop-folds.yielded c.loop-folds.folds-iterator c.loop-folds.yielded_by c.next.result c.next.new.self c.in-Some.folds c.in-Some.is c.next.ensures.steps in
-    let lt : i < length names = search rules in
+    let lt : i < length names = omega (arith, turn.0, c.in_ok-fetched.ensures.len, c.in_ok-fetched.fetched.ok.0) in
     let at = there names i lt in
     let given : IfOk (slice_index_or c.in_ok-fetched.fetched.items i c.in-Some.folds) (AreFoldsAt known shapes names i) =
     let each = c.in_ok-fetched.ensures.each i c.in-Some.folds lt in search rules in

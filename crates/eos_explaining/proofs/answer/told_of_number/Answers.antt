@@ -7,6 +7,7 @@ use Rattle.eos_sought.specs.declared.folded.Folded.{Folded}
 use Rattle.eos_explaining.specs.steps.Seen.{AreSeenBy}
 use Rattle.eos_explaining.specs.steps.Again.{ReadsMore}
 use Rattle.eos_explaining.proofs.Answered.{one_held, held_is, story_by}
+use Rattle.eos_explaining.proofs.LastCalls.{given}
 use Rattle.eos_explaining.proofs.NamedFaults.{named_at}
 use Rattle.eos_explaining.proofs.answer.told_of_number.Goals as goal
 
@@ -36,6 +37,8 @@ returns-clause-told g c =
     let v = c.index-told-0.result in
     let many : length told ≡ 1 = ap length c.as_slice-told.ensures.value ∙ one_held known shape c.args.judged number found f c.requires.first c.requires.inside in
     let at : slice_get found.told.items 0 ≡ Some v = subst (λ (vs : List Verdict). slice_get vs 0 ≡ Some v) c.as_slice-told.ensures.value (slice_get_read told (length told) 0 v refl (omega (arith, many)) c.index-told-0.is) in
+    given _ _ _ c.story_of.result (λ more text told.
     story_by known shape c.args.judged number found c.story_of.new.read.items (record { folder = c.args.asked.now.folder; counts = c.as_str.result; notes = c.as_slice.result; logs = c.as_slice-2.result }) v _ f c.requires.first at c.as_slice.ensures.value c.as_str.ensures.value
-    (subst (λ (fs : List Folded). ReadsMore known shape.partitions fs c.story_of.new.read.items) c.new-read.ensures.items c.in_ok-story.ensures.more)
-    (subst (λ (ps : List PartLog). AreSeenBy known shape ps c.as_slice-2.result.now) c.parts_of.ensures (subst (AreSeenBy known shape c.parts_of.result.items) (sym c.as_slice-2.ensures.value) c.in_ok-parts.ensures.seen)) c.in_ok-story.ensures.told
+    (subst (λ (fs : List Folded). ReadsMore known shape.partitions fs c.story_of.new.read.items) c.new-read.ensures.items more)
+    (subst (λ (ps : List PartLog). AreSeenBy known shape ps c.as_slice-2.result.now) c.parts_of.ensures (subst (AreSeenBy known shape c.parts_of.result.items) (sym c.as_slice-2.ensures.value) c.in_ok-parts.ensures.seen)) told)
+    c.story_of.ensures.more c.story_of.ensures.told

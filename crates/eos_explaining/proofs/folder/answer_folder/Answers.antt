@@ -7,12 +7,12 @@ use Rattle.eos_explaining.specs.Folders.{number_of, HoldsAsNamed}
 use Rattle.eos_source_check.proofs.FoldersRead.{in_folder}
 use Rattle.eos_explaining.proofs.folder.answer_folder.Goals as goal
 
-pub returns-clause-answer : goal.returns-clause-answer
-returns-clause-answer g c =
+pub returns-in_ok-shape-in-Ok-clause-answer : goal.returns-in_ok-shape-in-Ok-clause-answer
+returns-in_ok-shape-in-Ok-clause-answer g c =
     let folder = c.args.folder in
     let shape = c.in_ok-shape.shape in
     in_folder (g.D.Disk.holds folder.disk.now) folder.path.now shape.evidence shape.forms.items
-    (λ known s. HoldsAsNamed known s (λ e. IsAnswer folder.path.now e (number_of c.args.which.now.fault) c.in_ok-answer.answer)) (c.in_ok-shape.ensures.all c.in_ok-shape-2.was) c.in_ok-answer.ensures.answer
+    (λ known s. HoldsAsNamed known s (λ e. IsAnswer folder.path.now e (number_of c.args.which.now.fault) c.in-Ok.answer)) (c.in_ok-shape.ensures.all c.in_ok-shape-in-Ok.was) c.in-Ok.ensures.answer
 
 pub returns-in_err-shape-clause-first : goal.returns-in_err-shape-clause-first
 returns-in_err-shape-clause-first g c =
@@ -20,19 +20,17 @@ returns-in_err-shape-clause-first g c =
     let folder = c.args.folder in
     rw (p.1, p.2) (of_manifest (g.D.Disk.holds folder.disk.now) folder.path.now true c.in_err-shape.field-0.0 c.in_err-shape.ensures.refused)
 
-pub returns-in_err-answer-clause-first : goal.returns-in_err-answer-clause-first
-returns-in_err-answer-clause-first g c =
-    let p = err_from_is_err_and c.from_residual-in_err-answer.result c.from_residual-in_err-answer.ensures.1 in
+pub returns-in-Err-clause-first : goal.returns-in-Err-clause-first
+returns-in-Err-clause-first g c =
     let folder = c.args.folder in
     let shape = c.in_ok-shape.shape in
-    rw (p.1, p.2) (of_piece (g.D.Disk.holds folder.disk.now) folder.path.now true shape.evidence shape.forms.items shape.listed c.in_err-answer.field-0.0
-    c.in_ok-shape.ensures.all c.in_ok-shape.ensures.front c.in_err-answer.ensures.refused)
+    of_piece (g.D.Disk.holds folder.disk.now) folder.path.now true shape.evidence shape.forms.items shape.listed c.in-Err.fault c.in_ok-shape.ensures.all c.in_ok-shape.ensures.front c.in-Err.ensures.refused
 
-pub returns-in_err-shape-2-clause-first : goal.returns-in_err-shape-2-clause-first
-returns-in_err-shape-2-clause-first g c =
-    let p = err_from_is_err_and c.from_residual-in_err-shape-2.result c.from_residual-in_err-shape-2.ensures.1 in
+pub returns-in_err-shape-in-Ok-clause-first : goal.returns-in_err-shape-in-Ok-clause-first
+returns-in_err-shape-in-Ok-clause-first g c =
+    let p = err_from_is_err_and c.from_residual-in_err-shape-in-Ok.result c.from_residual-in_err-shape-in-Ok.ensures.1 in
     let folder = c.args.folder in
     let shape = c.in_ok-shape.shape in
-    let why = c.in_err-shape-2.field-0.0 in
+    let why = c.in_err-shape-in-Ok.field-0.0 in
     rw (p.1, p.2) (of_listing (g.D.Disk.holds folder.disk.now) folder.path.now true shape.evidence shape.forms.items why
-    (c.in_ok-shape.ensures.front why c.in_err-shape-2.was) c.in_ok-answer.ensures.opened)
+    (c.in_ok-shape.ensures.front why c.in_err-shape-in-Ok.was) c.in-Ok.ensures.opened)

@@ -1,5 +1,5 @@
-use Rattle.eos_text.proofs.Appended.{then}
 use Rattle.eos_explaining.specs.RowLines.{header_line}
+use Rattle.eos_explaining.proofs.LastCalls.{last}
 use Rattle.eos_explaining.proofs.rows.push_header.Goals as goal
 
 pub returns : goal.returns
@@ -7,4 +7,4 @@ unfolding header_line
 returns c =
     let key = simp c.key.ensures at c.in_ok-push_value.ensures in
     let values = rw c.width_of.ensures at c.in_ok-push_values.ensures in
-    then key (then values c.in_ok-push_text.ensures)
+    last _ _ _ key (last _ _ _ values c.push_text.ensures)

@@ -1,4 +1,4 @@
-use Rattle.std.proofs.Common.{◌≡◌, ◌<◌, ◌∙◌, ◌+◌, ◌++◌, ◌∷◌, [], Some, length, take, slice_get, slice_index_or, refl, subst, sym, ap, rules}
+use Rattle.std.proofs.Common.{◌≡◌, ◌<◌, ◌∙◌, ◌+◌, ◌++◌, ◌∷◌, [], Some, length, take, slice_get, slice_index_or, refl, subst, sym, ap, rules, arith}
 use Rattle.std.specs.Prelude.{IfOk}
 use Rattle.std.proofs.lemmas.List.{length_push, take_more}
 use Rattle.std.proofs.lemmas.Option.{slice_get_read}
@@ -24,7 +24,7 @@ loop-picked-preserved g c =
     let gives = c.into_iter-picked-iterator.ensures.into_iter_gives in
     let yields = YieldsList-from_vec {s = c.into_iter-picked-iterator.result} c.in_ok-fetched.fetched.items gives.0 (gives.1 ∙ c.in_ok-fetched.fetched.ok.0) in
     let turn = YieldsList-turn yields c.loop-picked.yielded c.loop-picked.picked-iterator c.loop-picked.yielded_by c.next.result c.next.new.self c.in-Some.picked c.in-Some.is c.next.ensures.steps in
-    let lt : i < length names = search rules in
+    let lt : i < length names = omega (arith, turn.0, c.in_ok-fetched.ensures.len, c.in_ok-fetched.fetched.ok.0) in
     let given : IfOk (slice_index_or c.in_ok-fetched.fetched.items i c.in-Some.picked) (ArePickedAt known shape.partitions names i all) =
     let each = c.in_ok-fetched.ensures.each i c.in-Some.picked lt in search rules in
     let told = subst (λ r. IfOk r (ArePickedAt known shape.partitions names i all)) (sym turn.1 ∙ c.in_ok-picked.was) given in

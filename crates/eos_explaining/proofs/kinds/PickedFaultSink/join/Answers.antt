@@ -18,7 +18,7 @@ returns-clause-taken c = λ yes begun list begins took.
           let behind : self.pick.from ≤ length told → self.pick.from + self.pick.most ≤ length told
           = λ le. let k = c.is_apart.ensures.behind apart (omega (arith, all, le)) in omega (arith, all, k) in
           record {
-            counts = c.in_ok-join.ensures told (map No list) h.counts more.counts;
+            counts = c.in_ok-joined.ensures told (map No list) h.counts more.counts;
             held = h.held ∙ held_apart self.pick.from self.pick.most told (map No list) before behind;
           };
     }

@@ -1,14 +1,17 @@
 use Rattle.std.proofs.Common.{◌≤◌, ◌-◌, ◌∙◌, ◌+◌, List, length, take, drop, subst, sym, rules}
+use Rattle.std.specs.Option.{option_copied}
+use Rattle.std.specs.Prelude.{option_map}
 use Rattle.std.proofs.lemmas.Bool.{false≢true}
 use Rattle.std.proofs.lemmas.List.{take_all}
 use Rattle.eos_base.specs.declared.partition_name.PartitionName.{PartitionName}
+use Rattle.eos_claims.specs.declared.place.Place.{Place}
 use Rattle.eos_source.specs.Said.{known_by}
 use Rattle.eos_sought.specs.declared.folded.Folded.{Folded}
 use Rattle.eos_story.specs.Names.{name_in}
-use Rattle.eos_explaining.specs.steps.Again.{AreAbsent, AreNamedOrRead}
-use Rattle.eos_explaining.proofs.Covered.{none_come, none_absent, more_still, both_absent, take_on, rows_settled}
-use Rattle.eos_explaining.proofs.again.read_rows.Goals.{then-more, else-more}
-use Rattle.eos_explaining.proofs.again.read_rows.Goals as goal
+use Rattle.eos_explaining.specs.steps.Again.{AreAbsent, AreNamedOrRead, IsNamedOrRead}
+use Rattle.eos_explaining.proofs.Covered.{none_come, none_absent, more_still, both_absent, take_on, named_settled}
+use Rattle.eos_explaining.proofs.again.read_named.Goals.{then-more, else-more}
+use Rattle.eos_explaining.proofs.again.read_named.Goals as goal
 
 pub loop-first-init : goal.loop-first-init
 loop-first-init g c = (search rules, none_come _ _ c.args.read.now.items, λ none. none_absent _ c.args.read.now.items)
@@ -38,6 +41,10 @@ returns-clause-covered g c =
     let names = c.as_slice-names.result.now in
     let before = c.args.read.now.items in
     let after = c.loop-first.read.items in
+    let own = option_map (λ (p : Place). p.partition) (option_copied c.args.place) in
+    let this : IsNamedOrRead before names own =
+    subst (λ (ns : List PartitionName). IsNamedOrRead before ns own) (sym c.as_slice-names.ensures.value)
+    (subst (λ (fs : List Folded). IsNamedOrRead fs c.in_ok-names.names.items own) c.as_slice.ensures.value (subst (IsNamedOrRead c.as_slice.result.now c.in_ok-names.names.items) c.own_name.ensures c.in_ok-names.ensures.own)) in
     let named : AreNamedOrRead before names name_in c.args.rows.now =
-    subst (λ (ns : List PartitionName). AreNamedOrRead before ns name_in c.args.rows.now) (sym c.as_slice-names.ensures.value) (subst (λ (fs : List Folded). AreNamedOrRead fs c.in_ok-names.names.items name_in c.args.rows.now) c.as_slice.ensures.value c.in_ok-names.ensures) in
-    rows_settled shapes before after names c.args.rows.now c.loop-first.more named (λ none. subst (λ (ns : List PartitionName). AreAbsent shapes before after ns) (take_all c.loop-first.first names c.loop-first-test.false) (c.loop-first.invariant.2 none))
+    subst (λ (ns : List PartitionName). AreNamedOrRead before ns name_in c.args.rows.now) (sym c.as_slice-names.ensures.value) (subst (λ (fs : List Folded). AreNamedOrRead fs c.in_ok-names.names.items name_in c.args.rows.now) c.as_slice.ensures.value c.in_ok-names.ensures.rows) in
+    named_settled shapes before after names own c.args.rows.now c.loop-first.more this named (λ none. subst (λ (ns : List PartitionName). AreAbsent shapes before after ns) (take_all c.loop-first.first names c.loop-first-test.false) (c.loop-first.invariant.2 none))

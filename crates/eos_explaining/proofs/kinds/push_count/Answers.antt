@@ -1,0 +1,5 @@
+use Rattle.eos_explaining.proofs.LastCalls.{last}
+use Rattle.eos_explaining.proofs.kinds.push_count.Goals as goal
+
+pub returns : goal.returns
+returns c = last _ _ _ c.in_ok-push_value.ensures (last _ _ _ c.in_ok-push_value-2.ensures (last _ _ _ c.in_ok-push_value-3.ensures c.push_value-4.ensures))
