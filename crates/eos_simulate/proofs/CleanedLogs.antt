@@ -1,6 +1,6 @@
 -- The batches of a file, one by one.
-use Rattle.std.proofs.Common.{◌≡◌, ℕ, zero, suc, ◌+◌, ◌-◌, ℤ, List, [], ◌∷◌, ◌++◌, ◌<◌, length, get_or, take, drop, drop-drop, slice_range, Ok, Err, arith, refl, sym, ap, ◌∙◌, append_assoc, append-nil}
-use Rattle.std.proofs.lemmas.List.{drop_more, length-drop, take_all}
+use Rattle.std.proofs.Common.{◌≡◌, ℕ, zero, suc, ◌+◌, ◌-◌, ℤ, List, [], ◌∷◌, ◌++◌, ◌<◌, ◌≤◌, length, get_or, take, drop, drop-drop, slice_range, Ok, Err, arith, refl, sym, ap, ◌∙◌, append_assoc, append-nil}
+use Rattle.std.proofs.lemmas.List.{drop_all, drop_more, length-drop, take_all}
 use Rattle.eos_batch.specs.declared.batch.Batch.{Batch}
 use Rattle.eos_batch.specs.declared.fault.BatchFault.{BatchFault}
 use Rattle.eos_batch.specs.Reading.{batch_at}
@@ -35,13 +35,16 @@ pub all_logged : (base : ℤ) (n : ℕ) (rest : List ℕ) (fault : BatchFault) (
 all_logged base n rest fault log all e h = sym (append-nil log) ∙ (sym (ap (λ (xs : List Logged). log ++ xs) (none_stands base n rest fault e)) ∙ h)
 
 -- what is left of one batch more
-pub left_more : (base : ℤ) (log : List Logged) (i : ℕ) (l : Logged) (out new text : List ℕ) → i < length log → l ≡ get_or log i l → text ≡ left_here base l (take (length log - (i + 1)) (drop (i + 1) log))
-    → new ≡ out ++ text → out ++ left_in base (drop i log) ≡ left_in base log → new ++ left_in base (drop (i + 1) log) ≡ left_in base log
-left_more base log i l out new text lt is told more h =
+pub left_more : (base : ℤ) (log : List Logged) (i : ℕ) (l : Logged) (out new : List ℕ) → i < length log → l ≡ get_or log i l → new ≡ out ++ left_here base l (take (length log - (i + 1)) (drop (i + 1) log))
+    → out ++ left_in base (drop i log) ≡ left_in base log → new ++ left_in base (drop (i + 1) log) ≡ left_in base log
+left_more base log i l out new lt is more h =
     let rest = left_in base (drop (i + 1) log) in
     let whole : drop i log ≡ l ∷ drop (i + 1) log = drop_more log i l lt ∙ ap (λ (x : Logged). x ∷ drop (i + 1) log) (sym is) in
     let count = length-drop (i + 1) log in
     let later : take (length log - (i + 1)) (drop (i + 1) log) ≡ drop (i + 1) log = take_all (length log - (i + 1)) (drop (i + 1) log) (omega (arith, count)) in
-    let own : text ≡ left_here base l (drop (i + 1) log) = told ∙ ap (λ (x : List Logged). left_here base l x) later in
-    ap (λ (x : List ℕ). x ++ rest) (more ∙ ap (λ (x : List ℕ). out ++ x) own)
+    ap (λ (x : List ℕ). x ++ rest) (more ∙ ap (λ (x : List Logged). out ++ left_here base l x) later)
     ∙ (append_assoc out (left_here base l (drop (i + 1) log)) rest ∙ (ap (λ (x : List Logged). out ++ left_in base x) (sym whole) ∙ h))
+
+-- and of all of them
+pub left_all : (base : ℤ) (log : List Logged) (i : ℕ) (out : List ℕ) → length log ≤ i → out ++ left_in base (drop i log) ≡ left_in base log → out ≡ left_in base log
+left_all base log i out end h = sym (append-nil out) ∙ (ap (λ (x : List Logged). out ++ left_in base x) (sym (drop_all i log end)) ∙ h)

@@ -64,12 +64,12 @@ pub all_labels : (first s : Course) (deeds : List Deed) (i : ℕ) (labels : List
 all_labels first s deeds i labels all h =
     sym (append-nil labels) ∙ (ap (λ (x : List Deed). labels ++ labels_from (i + 1) s x) (sym (drop_all i deeds all)) ∙ h)
 
-pub stopped : (stops : Bool) (c : Config) (s : Course) (deeds : List Deed) (i : ℕ) (labels more : List Label) → length deeds ≤ i → GoBehind (new_course c) deeds i s labels → GoesOn (new_course c) deeds i s
+pub stopped : (stops : Bool) (c : Config) (first s : Course) (deeds : List Deed) (i : ℕ) (labels more : List Label) → first ≡ new_course c → length deeds ≤ i → GoBehind first deeds i s labels → GoesOn first deeds i s
     → AddsStop stops s.world (length deeds) labels more → AreLabelsOf stops c deeds more
-stopped stops c s deeds i labels more all h g adds = record {
+stopped stops c first s deeds i labels more new all h g adds = record {
   last = adds.last;
-  whole = adds.whole ∙ ap (λ (x : List Label). x ++ adds.last) (all_labels (new_course c) s deeds i labels all h);
-  stop = subst (λ (x : Course). AreStopLabels stops x.world (length deeds) adds.last) (at_end (new_course c) s deeds i all g) adds.stop;
+  whole = adds.whole ∙ ap (λ (x : List Label). x ++ adds.last) (all_labels first s deeds i labels all h ∙ ap (λ (x : Course). labels_from 1 x deeds) new);
+  stop = subst (λ (x : Course). AreStopLabels stops x.world (length deeds) adds.last) (at_end first s deeds i all g ∙ ap (λ (x : Course). after x deeds) new) adds.stop;
 }
 
 -- labels, and then others

@@ -30,6 +30,8 @@ mod HistoryLines
 mod ShrunkParts
 mod ShrunkFiles
 mod CleanedLogs
+mod Gathered
+mod LookedFor
 pub mod Brought
 pub mod CollectedRuns
 mod EachSchedule

@@ -1,6 +1,7 @@
 //! The bytes of a file that was copied with a mistake.
 
-ghost use Rattle.std.specs.Prelude.{◌≡◌, IfOk};
+ghost use Rattle.std.specs.Prelude.{◌≡◌, ◌++◌, IfOk};
+ghost use Rattle.eos_wire.specs.Numbers.{u32_text};
 ghost use Rattle.eos_simulate.specs.CopiedFiles.{without_last, with_byte, sealed};
 
 use crate::mistake::Turned;
@@ -33,6 +34,13 @@ pub(crate) fn with_byte(alloc: Global, bytes: &Bytes, turned: Turned) -> Result<
     Ok(Bytes::from_vec(out)?)
 }
 
+/// With another byte at a place, and the checksum made anew.
+pub(crate) fn rewritten(alloc: Global, bytes: &Bytes, turned: Turned) -> Result<Bytes, AllocError>
+    ensures { IfOk result (λ changed. changed ≡ sealed (with_byte turned.at turned.value bytes.now)) }
+{
+    sealed(alloc, &with_byte(alloc, bytes, turned)?)
+}
+
 /// With the checksum of a batch that goes to the end.
 pub(crate) fn sealed(alloc: Global, bytes: &Bytes) -> Result<Bytes, AllocError>
     ensures { IfOk result (λ changed. changed ≡ sealed bytes.now) }
@@ -41,9 +49,26 @@ pub(crate) fn sealed(alloc: Global, bytes: &Bytes) -> Result<Bytes, AllocError>
         return bytes.clone();
     }
     let covered = &bytes.as_slice()[COVERED..];
+    with_number(
+        alloc,
+        &bytes.as_slice()[..CHECKSUM],
+        crc32c(covered),
+        covered,
+    )
+}
+
+/// A number between bytes.
+pub(crate) fn with_number(
+    alloc: Global,
+    front: &[u8],
+    number: u32,
+    rest: &[u8],
+) -> Result<Bytes, AllocError>
+    ensures { IfOk result (λ whole. whole ≡ front.now ++ (u32_text number ++ rest.now)) }
+{
     let mut out = Vec::new(alloc);
-    out.extend_from_slice(&bytes.as_slice()[..CHECKSUM])?;
-    write_u32(&mut out, crc32c(covered))?;
-    out.extend_from_slice(covered)?;
+    out.extend_from_slice(front)?;
+    write_u32(&mut out, number)?;
+    out.extend_from_slice(rest)?;
     Ok(Bytes::from_vec(out)?)
 }

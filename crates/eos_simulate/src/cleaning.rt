@@ -1,17 +1,17 @@
 //! What Kafka's log cleaner leaves of a partition's log.
 
-ghost use Rattle.std.specs.Prelude.{◌≡◌, ◌≤◌, ◌<◌, ◌^◌, ◌+◌, ◌++◌, IfOk, OnOk, length, slice_range};
+ghost use Rattle.std.specs.Prelude.{◌≡◌, ◌≤◌, ◌<◌, ◌^◌, ◌+◌, ◌++◌, ◌∷◌, [], IfOk, OnOk, length, slice_range};
 ghost use Rattle.eos_batch.specs.Marker.{marker_of};
 ghost use Rattle.eos_simulate.specs.Cleaning.{logged_in, logged_of, log_of, is_data, is_data_of, has_data_of, is_closed, is_abort, aborts, is_aborted_in, is_aborted, is_live, is_key, has_key, supersedes, is_superseded, stays, one_if, text_if, left_count, left_text, first_size, with_left, is_last_of_producer, left_batch, left_of, left_here, left_in, cleaned_file, cleaned_files};
 
-use crate::bytes_changed::sealed;
-use crate::copied::{is_file_of, with_bytes};
+use crate::bytes_changed::{sealed, with_number};
+use crate::copied::{is_file_of, push_copy, push_with};
 use crate::mistake::Mistake;
 use bytes::Bytes;
 use eos_base::Listed;
 use eos_batch::{Batch, Kind, Record, next_batch};
 use eos_evidence::Segment;
-use eos_wire::{read_varint, write_u32};
+use eos_wire::read_varint;
 use std::alloc::{AllocError, Global};
 
 /// Where a batch's length stands and what it counts begins, where the number of its records stands, and where they begin.
@@ -45,23 +45,24 @@ pub(crate) fn cleaned_files(
     let log = log_of(alloc, mistake, files)?;
     let mut cleaned = Listed::new(Vec::new(alloc));
     for file in files {
-        cleaned.push(cleaned_file(alloc, mistake, log.as_slice(), file)?)?;
+        push_cleaned(alloc, &mut cleaned, mistake, log.as_slice(), file)?;
     }
     Ok(cleaned)
 }
 
-fn cleaned_file(
+fn push_cleaned(
     alloc: Global,
+    cleaned: &mut Listed<Segment>,
     mistake: &Mistake<'_>,
     log: &[Logged],
     file: &Segment,
-) -> Result<Segment, AllocError>
-    ensures { IfOk result (λ cleaned. cleaned ≡ cleaned_file mistake.now log.now file.now) }
+) -> Result<(), AllocError>
+    ensures { OnOk result (cleaned.new ≡ cleaned.old ++ cleaned_file mistake.now log.now file.now ∷ []) }
 {
     if !is_file_of(mistake, file) {
-        return file.copy();
+        return push_copy(cleaned, file);
     }
-    with_bytes(file, left_in(alloc, file.base, log)?)
+    push_with(cleaned, file, left_in(alloc, file.base, log))
 }
 
 // ---- the log
@@ -94,16 +95,23 @@ fn push_logged(
     push_batches(alloc, log, file)
 }
 
-/// A batch of the file, which takes so many bytes.
-fn logged_at(file: &Segment, batch: Batch, at: usize, size: usize) -> Result<Logged, AllocError>
+/// Adds a batch of the file, which takes so many bytes.
+fn push_batch(
+    log: &mut Vec<Logged>,
+    file: &Segment,
+    batch: Batch,
+    at: usize,
+    size: usize,
+) -> Result<(), AllocError>
     requires { (at + size ≤ length file.now.bytes) × (length file.now.bytes < 2 ^ 63) }
-    ensures { IfOk result (λ logged. logged ≡ record { base = file.now.base; batch = batch; text = slice_range file.now.bytes at (at + size) }) }
+    ensures { OnOk result (log.new.items ≡ log.old.items ++ record { base = file.now.base; batch = batch; text = slice_range file.now.bytes at (at + size) } ∷ []) }
 {
-    Ok(Logged {
+    log.push(Logged {
         base: file.base,
         batch,
         text: file.bytes.slice(at..at + size)?,
-    })
+    })?;
+    Ok(())
 }
 
 fn push_batches(alloc: Global, log: &mut Vec<Logged>, file: &Segment) -> Result<(), AllocError>
@@ -113,7 +121,7 @@ fn push_batches(alloc: Global, log: &mut Vec<Logged>, file: &Segment) -> Result<
     for _ in 0..file.bytes.len() {
         match next_batch(alloc, &file.bytes, at)? {
             Ok((batch, size)) => {
-                log.push(logged_at(file, batch, at, size)?)?;
+                push_batch(log, file, batch, at, size)?;
                 at += size;
             }
             Err(_) => return Ok(()),
@@ -130,10 +138,16 @@ fn is_data(logged: &Logged) -> bool
     !logged.batch.is_control()
 }
 
+#[tactic(auto, using(crate::proofs::LookedFor::looked_at, crate::proofs::LookedFor::none_found))]
 fn is_closed(logged: &Logged, later: &[Logged]) -> bool
     ensures { result ≡ is_closed logged.now later.now }
 {
-    later.iter().any(|other| other.base != logged.base)
+    for other in later {
+        if other.base != logged.base {
+            return true;
+        }
+    }
+    false
 }
 
 fn is_abort(kind: Kind) -> bool
@@ -187,7 +201,12 @@ fn is_data_of(logged: &Logged, other: &Logged) -> bool
 fn has_data_of(logged: &Logged, later: &[Logged]) -> bool
     ensures { result ≡ has_data_of logged.now later.now }
 {
-    later.iter().any(|other| is_data_of(logged, other))
+    for other in later {
+        if is_data_of(logged, other) {
+            return true;
+        }
+    }
+    false
 }
 
 fn is_last_of_producer(logged: &Logged, later: &[Logged]) -> bool
@@ -210,7 +229,12 @@ fn is_key(key: &Bytes, other: &Option<Bytes>) -> bool
 fn has_key(key: &Bytes, records: &[Record]) -> bool
     ensures { result ≡ has_key key.now records.now }
 {
-    records.iter().any(|record| is_key(key, &record.key))
+    for record in records {
+        if is_key(key, &record.key) {
+            return true;
+        }
+    }
+    false
 }
 
 fn supersedes(key: &Bytes, logged: &Logged, later: &[Logged]) -> bool
@@ -290,13 +314,11 @@ fn with_left(alloc: Global, text: &Bytes, count: usize, records: &[u8]) -> Resul
     if text.len() < RECORDS || count >= MOST || records.len() >= MOST {
         return text.clone();
     }
-    let mut out = Vec::new(alloc);
-    out.extend_from_slice(&text.as_slice()[..LENGTH])?;
-    write_u32(&mut out, (RECORDS - COUNTED + records.len()) as u32)?;
-    out.extend_from_slice(&text.as_slice()[COUNTED..COUNT])?;
-    write_u32(&mut out, count as u32)?;
-    out.extend_from_slice(records)?;
-    sealed(alloc, &Bytes::from_vec(out)?)
+    let text = text.as_slice();
+    let rest = with_number(alloc, &text[COUNTED..COUNT], count as u32, records)?;
+    let size = (RECORDS - COUNTED + records.len()) as u32;
+    let whole = with_number(alloc, &text[..LENGTH], size, rest.as_slice())?;
+    sealed(alloc, &whole)
 }
 
 // ---- what is left
@@ -334,19 +356,21 @@ fn left_of(alloc: Global, logged: &Logged, later: &[Logged]) -> Result<Bytes, Al
     left_batch(alloc, logged, logged.batch.records.as_slice(), later)
 }
 
-/// What is left of a batch, if it stands in the file of this name.
-fn left_here(
+/// Adds what is left of a batch, if it stands in the file of this name.
+fn push_here(
     alloc: Global,
+    out: &mut Vec<u8>,
     base: i64,
     logged: &Logged,
     later: &[Logged],
-) -> Result<Bytes, AllocError>
-    ensures { IfOk result (λ left. left ≡ left_here base logged.now later.now) }
+) -> Result<(), AllocError>
+    ensures { OnOk result (out.new.items ≡ out.old.items ++ left_here base logged.now later.now) }
 {
     if logged.base != base {
-        return Ok(Bytes::from_static(b"".as_slice()));
+        return Ok(());
     }
-    left_of(alloc, logged, later)
+    let left = left_of(alloc, logged, later)?;
+    out.extend_from_slice(left.as_slice())
 }
 
 /// What is left in the file of this name.
@@ -355,8 +379,7 @@ fn left_in(alloc: Global, base: i64, log: &[Logged]) -> Result<Bytes, AllocError
 {
     let mut out = Vec::new(alloc);
     for i in 0..log.len() {
-        let left = left_here(alloc, base, &log[i], &log[i + 1..])?;
-        out.extend_from_slice(left.as_slice())?;
+        push_here(alloc, &mut out, base, &log[i], &log[i + 1..])?;
     }
     Ok(Bytes::from_vec(out)?)
 }

@@ -36,12 +36,17 @@ pub(crate) fn collected(
         labels,
     } = made;
     let evidence = evidence_with(alloc, evidence, mistakes)?;
-    let labels = labels_with(alloc, labels, mistakes)?;
-    Ok(Made {
-        evidence,
-        history,
-        labels,
-    })
+    match labels_with(alloc, labels, mistakes) {
+        Ok(labels) => Ok(Made {
+            evidence,
+            history,
+            labels,
+        }),
+        Err(_) => {
+            drop(evidence);
+            Err(SimulationFault::OutOfMemory)
+        }
+    }
 }
 
 fn evidence_with(
@@ -54,8 +59,17 @@ fn evidence_with(
     if mistakes.is_empty() {
         return Ok(evidence);
     }
-    let copied = brought(alloc, &evidence, mistakes)?;
-    made_of(alloc, &evidence, copied)
+    match brought(alloc, &evidence, mistakes) {
+        Ok(copied) => {
+            let made = made_of(alloc, &evidence, copied);
+            drop(evidence);
+            made
+        }
+        Err(fault) => {
+            drop(evidence);
+            Err(fault)
+        }
+    }
 }
 
 /// What is brought.
@@ -87,8 +101,13 @@ fn made_of(alloc: Global, evidence: &Evidence, copied: Copied) -> Result<Evidenc
     let Copied { ends, files } = copied;
     let spec = spec_with(alloc, evidence.spec(), ends)?;
     let mut builder = EvidenceBuilder::new(alloc, spec)?;
-    add_files(&mut builder, files.as_slice())?;
-    Ok(builder.finish())
+    match add_files(&mut builder, files.as_slice()) {
+        Ok(()) => Ok(builder.finish()),
+        Err(fault) => {
+            drop(builder);
+            Err(fault)
+        }
+    }
 }
 
 /// The spec with these ends.

@@ -1,11 +1,11 @@
 //! What a collector brings: the files that were copied and the ends that were read, and what a mistake makes of them.
 
-ghost use Rattle.std.specs.Prelude.{◌≡◌, ◌++◌, ◌∷◌, [], flat_map, IfOk, OnOk};
+ghost use Rattle.std.specs.Prelude.{◌≡◌, ℕ, List, ◌++◌, ◌∷◌, [], flat_map, IfOk, OnOk};
 ghost use Rattle.eos_evidence.specs.Evidence.{segments_of};
 ghost use Rattle.eos_simulate.specs.CopiedFiles.{is_file_of, is_end_of};
 ghost use Rattle.eos_simulate.specs.Collecting.{own_file, own_end, file_after, end_after, files_after, after_mistake, turns, meets_file, meets_end, meets_a_file, meets_an_end, can_make, copied_from, all_bytes};
 
-use crate::bytes_changed::{sealed, with_byte, without_last};
+use crate::bytes_changed::{rewritten, with_byte, without_last};
 use crate::cleaning::cleaned_files;
 use crate::mistake::{Mistake, Turned, What};
 use bytes::Bytes;
@@ -63,9 +63,33 @@ fn push_files(files: &mut Listed<Segment>, segments: &[Segment]) -> Result<(), A
     ensures { OnOk result (files.new ≡ files.old ++ segments.now) }
 {
     for segment in segments {
-        files.push(segment.copy()?)?;
+        push_copy(files, segment)?;
     }
     Ok(())
+}
+
+/// Adds an equal file.
+pub(crate) fn push_copy(files: &mut Listed<Segment>, file: &Segment) -> Result<(), AllocError>
+    ensures { OnOk result (files.new ≡ files.old ++ file.now ∷ []) }
+{
+    files.push(file.copy()?)
+}
+
+/// Adds the file with these bytes, where they could be made.
+pub(crate) fn push_with(
+    files: &mut Listed<Segment>,
+    file: &Segment,
+    bytes: Result<Bytes, AllocError>,
+) -> Result<(), AllocError>
+    ensures { (bs : List ℕ) → IfOk bytes (λ b. b ≡ bs) → OnOk result (files.new ≡ files.old ++ record file.now { bytes = bs } ∷ []) }
+{
+    let bytes = bytes?;
+    files.push(Segment {
+        topic: file.topic.clone()?,
+        partition: file.partition,
+        base: file.base,
+        bytes,
+    })
 }
 
 // ---- where it is made
@@ -121,16 +145,28 @@ fn meets_end(end: &End, what: What) -> bool
     }
 }
 
+#[tactic(auto, using(crate::proofs::LookedFor::looked_at, crate::proofs::LookedFor::none_found))]
 fn meets_a_file(mistake: &Mistake<'_>, files: &[Segment]) -> bool
     ensures { result ≡ meets_a_file mistake.now files.now }
 {
-    files.iter().any(|file| is_file_of(mistake, file) && meets_file(file, mistake.what))
+    for file in files {
+        if is_file_of(mistake, file) && meets_file(file, mistake.what) {
+            return true;
+        }
+    }
+    false
 }
 
+#[tactic(auto, using(crate::proofs::LookedFor::looked_at, crate::proofs::LookedFor::none_found))]
 fn meets_an_end(mistake: &Mistake<'_>, ends: &[End]) -> bool
     ensures { result ≡ meets_an_end mistake.now ends.now }
 {
-    ends.iter().any(|end| is_end_of(mistake, end) && meets_end(end, mistake.what))
+    for end in ends {
+        if is_end_of(mistake, end) && meets_end(end, mistake.what) {
+            return true;
+        }
+    }
+    false
 }
 
 // ---- the ends
@@ -223,7 +259,7 @@ fn push_file(
     if is_file_of(mistake, file) {
         return push_own(alloc, all, mistake, files, file);
     }
-    all.push(file.copy()?)
+    push_copy(all, file)
 }
 
 /// Adds what comes of a file of the partition.
@@ -239,66 +275,40 @@ fn push_own(
     match mistake.what {
         What::LostSegment(base) if file.base == base => Ok(()),
         What::CutSegment(base) if file.base == base => {
-            all.push(with_bytes(file, without_last(&file.bytes)?)?)
+            push_with(all, file, without_last(&file.bytes))
         }
-        What::RenamedSegment(base, name) if file.base == base => all.push(with_base(file, name)?),
+        What::RenamedSegment(base, name) if file.base == base => push_renamed(all, file, name),
         What::TurnedByte(turned) if file.base == turned.base => {
-            all.push(with_bytes(file, with_byte(alloc, &file.bytes, turned)?)?)
+            push_with(all, file, with_byte(alloc, &file.bytes, turned))
         }
         What::RewrittenByte(turned) if file.base == turned.base => {
-            let bytes = with_byte(alloc, &file.bytes, turned)?;
-            all.push(with_bytes(file, sealed(alloc, &bytes)?)?)
+            push_with(all, file, rewritten(alloc, &file.bytes, turned))
         }
         What::TwoReplicas if file.base == 0 => {
-            all.push(with_bytes(file, all_bytes(alloc, mistake, files)?)?)
+            push_with(all, file, all_bytes(alloc, mistake, files))
         }
         What::Forgotten => Ok(()),
         What::Doubled(number) => push_twice(all, file, number),
-        _ => all.push(file.copy()?),
+        _ => push_copy(all, file),
     }
 }
 
 fn push_twice(all: &mut Listed<Segment>, file: &Segment, number: i32) -> Result<(), AllocError>
     ensures { OnOk result (all.new ≡ all.old ++ file.now ∷ record file.now { partition = number } ∷ []) }
 {
-    let same = file.copy()?;
-    let other = with_number(file, number)?;
-    all.push(same)?;
+    push_copy(all, file)?;
+    let mut other = file.copy()?;
+    other.partition = number;
     all.push(other)?;
     Ok(())
 }
 
-pub(crate) fn with_bytes(file: &Segment, bytes: Bytes) -> Result<Segment, AllocError>
-    ensures { IfOk result (λ changed. changed ≡ record file.now { bytes = bytes }) }
+fn push_renamed(all: &mut Listed<Segment>, file: &Segment, base: i64) -> Result<(), AllocError>
+    ensures { OnOk result (all.new ≡ all.old ++ record file.now { base = base } ∷ []) }
 {
-    Ok(Segment {
-        topic: file.topic.clone()?,
-        partition: file.partition,
-        base: file.base,
-        bytes,
-    })
-}
-
-fn with_base(file: &Segment, base: i64) -> Result<Segment, AllocError>
-    ensures { IfOk result (λ changed. changed ≡ record file.now { base = base }) }
-{
-    Ok(Segment {
-        topic: file.topic.clone()?,
-        partition: file.partition,
-        base,
-        bytes: file.bytes.clone()?,
-    })
-}
-
-fn with_number(file: &Segment, number: i32) -> Result<Segment, AllocError>
-    ensures { IfOk result (λ changed. changed ≡ record file.now { partition = number }) }
-{
-    Ok(Segment {
-        topic: file.topic.clone()?,
-        partition: number,
-        base: file.base,
-        bytes: file.bytes.clone()?,
-    })
+    let mut renamed = file.copy()?;
+    renamed.base = base;
+    all.push(renamed)
 }
 
 /// The bytes of all files of the partition, one after the other.

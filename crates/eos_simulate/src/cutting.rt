@@ -30,7 +30,6 @@ struct Sides {
 }
 
 /// The lines that are left of what was done where a span is left out. No reply is said.
-#[tactic(auto, using(crate::proofs::ShrunkParts::all_left, crate::proofs::ShrunkParts::line_passed))]
 pub(crate) fn cut(
     alloc: Global,
     config: Config,
@@ -40,6 +39,21 @@ pub(crate) fn cut(
     ensures { IfOk result (λ lines. IsPartOf (unnamed_lines lines) (unnamed_deeds deeds.now)) }
 {
     let mut sides = Sides::new(alloc, config)?;
+    let lines = lines_left(alloc, &mut sides, deeds, span);
+    drop(sides);
+    lines
+}
+
+/// The same of two clusters before any event.
+#[tactic(auto, using(crate::proofs::ShrunkParts::all_left, crate::proofs::ShrunkParts::line_passed))]
+fn lines_left(
+    alloc: Global,
+    sides: &mut Sides,
+    deeds: &[eos_drive::Deed],
+    span: Span,
+) -> Result<Listed<Line>, SimulationFault>
+    ensures { IfOk result (λ lines. IsPartOf (unnamed_lines lines) (unnamed_deeds deeds.now)) }
+{
     let mut lines = Listed::new(Vec::new(alloc));
     for place in 0..deeds.len() {
         let is_cut = span.from <= place && place < span.to;
@@ -61,11 +75,15 @@ fn add_line(lines: &mut Listed<Line>, number: u64, left: Option<Deed>) -> Result
 
 impl Sides {
     fn new(alloc: Global, config: Config) -> Result<Sides, SimulationFault> {
-        Ok(Sides {
-            whole: Side::new(alloc, config)?,
-            part: Side::new(alloc, config)?,
-            names: Names::new(alloc, config)?,
-        })
+        let names = Names::new(alloc, config)?;
+        let whole = Side::new(alloc, config)?;
+        match Side::new(alloc, config) {
+            Ok(part) => Ok(Sides { whole, part, names }),
+            Err(fault) => {
+                drop(whole);
+                Err(fault)
+            }
+        }
     }
 
     /// Does in the whole what was done, and in the part what is left of it, which this gives.

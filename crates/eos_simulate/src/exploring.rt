@@ -166,12 +166,19 @@ fn explore_here<T: Threads + Sync>(
     ensures err { IfErr result (IsRightly course.now.config) }
 {
     let mut history = History::new(alloc);
-    match judged(alloc, rt, course, walk.words.as_slice(), &mut history) {
-        Ok(Verdict::Yes(_)) => match count(&mut walk.explored, &history) {
-            Ok(()) => Ok(()),
-            Err(fault) => Err(Unexplored::Unmade(fault)),
-        },
-        Ok(Verdict::No(fault)) => Err(Unexplored::Accused(Accused {
+    let verdict = match judged(alloc, rt, course, walk.words.as_slice(), &mut history) {
+        Ok(verdict) => verdict,
+        Err(fault) => return Err(Unexplored::Unmade(fault)),
+    };
+    match verdict {
+        Verdict::Yes(_) => {
+            drop(verdict);
+            match count(&mut walk.explored, &history) {
+                Ok(()) => Ok(()),
+                Err(fault) => Err(Unexplored::Unmade(fault)),
+            }
+        }
+        Verdict::No(fault) => Err(Unexplored::Accused(Accused {
             head: Head {
                 words: walk.words.len() as u64,
                 ..course.head()
@@ -179,7 +186,6 @@ fn explore_here<T: Threads + Sync>(
             history,
             fault,
         })),
-        Err(fault) => Err(Unexplored::Unmade(fault)),
     }
 }
 
@@ -194,8 +200,9 @@ fn evidence_by(
 {
     let script = Script::of_words(alloc, words)?;
     let cluster = cluster_of_script(alloc, course, &script, history)?;
-    let evidence = evidence_of(&cluster, course.stops)?;
-    Ok(evidence)
+    let evidence = evidence_of(&cluster, course.stops);
+    drop(cluster);
+    Ok(evidence?)
 }
 
 /// Runs the schedule of these words, and judges what it leaves.
@@ -209,8 +216,9 @@ fn judged<T: Threads + Sync>(
     ensures { history.old ≡ [] → IfOk result (IsJudged course.now.config history.new) }
 {
     let evidence = evidence_by(alloc, course, words, history)?;
-    let verdict = check_one(alloc, rt, &evidence)?;
-    Ok(verdict)
+    let verdict = check_one(alloc, rt, &evidence);
+    drop(evidence);
+    Ok(verdict?)
 }
 
 /// Counts a run.

@@ -8,8 +8,7 @@ use crate::leaving::{Unleft, Unsimulated, simulate_to};
 use crate::making::SimulationFault;
 use crate::mistake::mistakes_of;
 use crate::recipe::index_line;
-use crate::swarm::{Drawn, drawn_for};
-use eos_cluster::Switch;
+use crate::swarm::{Drawn, Rules, drawn_for};
 use eos_disk::{DiskMut, HostDisk};
 use eos_ending::{Ending, STANDARD, Subject, end, end_unchanged};
 use eos_words::Simulation;
@@ -49,10 +48,10 @@ pub(crate) fn simulate_folders(rt: &HostRuntime, words: &Simulation<'_>, count: 
 /// Makes the folder at this place, and tells it. A seed that leaves no evidence is passed over.
 fn simulate_next(rt: &HostRuntime, words: &Simulation<'_>, place: u64) -> Result<u8, AllocError> {
     let alloc = rt.alloc();
-    let folder = next_folder(alloc, words.folder, place)?;
-    let labels = format!(in alloc; "{folder}.labels")?;
     let seed = words.seed.wrapping_add(place);
     let drawn = drawn_for(alloc, words, seed)?;
+    let folder = next_folder(alloc, words.folder, place)?;
+    let labels = format!(in alloc; "{folder}.labels")?;
     let mishap = match drawn.mishap {
         Some(chosen) => Some(chosen.text(alloc)?),
         None => None,
@@ -93,8 +92,7 @@ fn own_words<'a>(
     ensures turning { IfOk result (λ single. (single.switch_at ≡ own.entry.drawn.switch_at) × (single.no_tail ≡ own.entry.drawn.no_tail)) }
 {
     let mut switches = copies(alloc, words.switches.as_slice())?;
-    push_rule(&mut switches, own.drawn.rules.first)?;
-    push_rule(&mut switches, own.drawn.rules.second)?;
+    push_rules(&mut switches, own.drawn.rules)?;
     let mut mishaps = copies(alloc, words.mishaps.as_slice())?;
     if let Some(mishap) = own.mishap {
         mishaps.push(mishap)?;
@@ -124,8 +122,11 @@ fn own_words<'a>(
     })
 }
 
-fn push_rule(switches: &mut Vec<&str>, rule: Option<Switch>) -> Result<(), AllocError> {
-    if let Some(rule) = rule {
+fn push_rules(switches: &mut Vec<&str>, rules: Rules) -> Result<(), AllocError> {
+    if let Some(rule) = rules.first {
+        switches.push(rule.name())?;
+    }
+    if let Some(rule) = rules.second {
         switches.push(rule.name())?;
     }
     Ok(())

@@ -10,7 +10,7 @@ ghost use Rattle.eos_simulate.specs.Histories.{new_course, IsLeftBy, HasBroken, 
 
 use crate::course::{Course, SWITCHES, UNCLEAN, is_on};
 use crate::making::{SimulationFault, evidence_of, new_cluster, none_unmet};
-use eos_cluster::{Cluster, Switches};
+use eos_cluster::Cluster;
 use eos_drive::{History, Script, run_kept, run_tail_kept};
 use eos_evidence::Evidence;
 use std::alloc::{AllocError, Global};
@@ -33,12 +33,13 @@ pub fn simulate(
 {
     let script = Script::from_seed(alloc, course.seed, course.words)?;
     let cluster = cluster_of_script(alloc, course, &script, history)?;
-    let evidence = evidence_of(&cluster, course.stops)?;
-    Ok(evidence)
+    let evidence = evidence_of(&cluster, course.stops);
+    drop(cluster);
+    Ok(evidence?)
 }
 
 /// A cluster that has done what the script says, and then has broken the rules whose switches are on.
-#[tactic(auto, using(crate::proofs::Deeds::kept_on))]
+#[tactic(auto, using(crate::proofs::Deeds::kept_on, crate::proofs::Deeds::lossless_new))]
 pub(crate) fn cluster_of_script(
     alloc: Global,
     course: &Course,
@@ -50,30 +51,39 @@ pub(crate) fn cluster_of_script(
     ensures rules { OnOk result (HasBroken course.now.switches history.new) }
     ensures lossless { course.now.unclean ≡ 0 → IfOk result (λ cluster. LosesNothing cluster.world) }
 {
-    let mut cluster = driven(alloc, course, script, history)?;
-    break_rules(alloc, &mut cluster, history, course)?;
-    Ok(cluster)
+    let mut cluster = new_cluster(alloc, course.config)?;
+    if let Err(fault) = drive(alloc, &mut cluster, history, course, script) {
+        drop(cluster);
+        return Err(fault);
+    }
+    match break_rules(alloc, &mut cluster, history, course) {
+        Ok(()) => Ok(cluster),
+        Err(_) => {
+            drop(cluster);
+            Err(SimulationFault::OutOfMemory)
+        }
+    }
 }
 
-#[tactic(auto, using(crate::proofs::Deeds::lossless_new))]
-fn driven(
+/// Drives a cluster by what the script says.
+fn drive(
     alloc: Global,
+    cluster: &mut Cluster,
+    history: &mut History,
     course: &Course,
     script: &Script,
-    history: &mut History,
-) -> Result<Cluster, SimulationFault>
-    ensures kept { IfOk result (λ cluster. IsKept (new_course course.now.config) history.old cluster history.new) }
-    ensures honest { any_on course.now.switches ≡ false → IfOk result (λ cluster. cluster.honest ≡ true) }
-    ensures lossless { course.now.unclean ≡ 0 → IfOk result (λ cluster. LosesNothing cluster.world) }
+) -> Result<(), SimulationFault>
+    ensures kept { IsKept cluster.old history.old cluster.new history.new }
+    ensures honest { any_on course.now.switches ≡ false → cluster.new.honest ≡ cluster.old.honest }
+    ensures lossless { course.now.unclean ≡ 0 → LosesNothing cluster.old.world → LosesNothing cluster.new.world }
 {
-    let mut cluster = new_cluster(alloc, course.config)?;
     let settings = course.settings();
-    let unmet = run_kept(alloc, &mut cluster, history, script, &settings)?;
+    let unmet = run_kept(alloc, cluster, history, script, &settings)?;
     none_unmet(unmet)?;
-    if losses_of(&cluster) < course.unclean {
+    if losses_of(cluster) < course.unclean {
         return Err(SimulationFault::Unfit(UNCLEAN, "no partition has a record to lose"));
     }
-    Ok(cluster)
+    Ok(())
 }
 
 /// How many elections have lost records.
@@ -104,12 +114,12 @@ fn break_rules(
         return Ok(());
     }
     history.set(cluster, course.switches)?;
-    show_if(alloc, cluster, history, course)
+    show(alloc, cluster, history, course)
 }
 
 /// Drives the cluster by the events that show the switches, unless these are left out.
-#[tactic(auto, using(crate::proofs::Deeds::kept_still))]
-fn show_if(
+#[tactic(auto, using(crate::proofs::Deeds::kept_on, crate::proofs::Deeds::kept_still))]
+fn show(
     alloc: Global,
     cluster: &mut Cluster,
     history: &mut History,
@@ -118,24 +128,11 @@ fn show_if(
     ensures kept { IsKept cluster.old history.old cluster.new history.new }
     ensures lossless { LosesNothing cluster.old.world → LosesNothing cluster.new.world }
 {
-    if course.is_shown {
-        return show(alloc, cluster, history, course.switches);
+    if !course.is_shown {
+        return Ok(());
     }
-    Ok(())
-}
-
-#[tactic(auto, using(crate::proofs::Deeds::kept_on, crate::proofs::Deeds::kept_still))]
-fn show(
-    alloc: Global,
-    cluster: &mut Cluster,
-    history: &mut History,
-    switches: Switches,
-) -> Result<(), AllocError>
-    ensures kept { IsKept cluster.old history.old cluster.new history.new }
-    ensures lossless { LosesNothing cluster.old.world → LosesNothing cluster.new.world }
-{
     for switch in SWITCHES {
-        if is_on(switches, switch) {
+        if is_on(course.switches, switch) {
             run_tail_kept(alloc, cluster, history, switch)?;
         }
     }

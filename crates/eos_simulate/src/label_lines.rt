@@ -32,10 +32,11 @@ pub(crate) fn labels_if(
     if !wanted {
         return Ok(None);
     }
-    let cluster = new_cluster(alloc, config)?;
     let labels = labels_of(alloc, config, history.deeds(), stops)?;
-    let text = text_of(alloc, &cluster, labels.as_slice())?;
-    Ok(Some(text))
+    let cluster = new_cluster(alloc, config)?;
+    let text = text_of(alloc, &cluster, labels.as_slice());
+    drop(cluster);
+    Ok(Some(text?))
 }
 
 /// The lines of these labels, in a cluster of these sizes.
@@ -228,10 +229,12 @@ pub(crate) fn json_of(alloc: Global, text: &str) -> Result<String, AllocError>
     ensures { IfOk result (λ json. string_bytes json ≡ compact_text (string text.now)) }
 {
     let value = value_of(alloc, text)?;
-    value.to_string(alloc)
+    let json = value.to_string(alloc);
+    drop(value);
+    json
 }
 
-fn value_of(alloc: Global, text: &str) -> Result<Value, AllocError>
+pub(crate) fn value_of(alloc: Global, text: &str) -> Result<Value, AllocError>
     ensures { IfOk result (λ value. view value ≡ string text.now) }
 {
     Ok(Value::String(String::from_str(alloc, text)?))

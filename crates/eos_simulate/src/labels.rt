@@ -1,10 +1,13 @@
 //! What was done wrong in a run, as the simulator says it.
 
 ghost use Rattle.std.specs.Prelude.{◌≡◌, ◌∷◌, [], IfOk, OnOk};
+ghost use Rattle.eos_machine.specs.declared.config.Config.{Config};
 ghost use Rattle.eos_drive.specs.Driven.{after_deed};
+ghost use Rattle.eos_simulate.specs.Histories.{new_course};
 ghost use Rattle.eos_simulate.specs.steps.AddedLabels.{AddsLabels, AddsStop, is_left_out};
 ghost use Rattle.eos_simulate.specs.Labels.{broken_if, broken_labels, taken_at, answer_labels, tail_labels, election_labels, event_labels, wrong_note, deed_labels, AreLabelsOf};
 
+use crate::history_file::copy;
 use crate::making::{SimulationFault, new_cluster};
 use bytes::Bytes;
 use eos_cluster::{Cluster, Switch, Switches};
@@ -59,7 +62,6 @@ pub struct Label {
 
 /// The labels of what was done to a new cluster of these sizes, in order: each mishap, each message that was lost or repeated, and each
 /// rule that was broken where a message was taken; last, where the run stops there, that the cluster isn't at rest; and no other.
-#[tactic(auto, using(crate::proofs::Labelled::labelled, crate::proofs::Labelled::further, crate::proofs::Labelled::stopped))]
 pub fn labels_of(
     alloc: Global,
     config: Config,
@@ -69,12 +71,27 @@ pub fn labels_of(
     ensures { IfOk result (λ labels. AreLabelsOf stops config deeds.now labels.items) }
 {
     let mut cluster = new_cluster(alloc, config)?;
+    let labels = labels_in(alloc, &mut cluster, deeds, stops);
+    drop(cluster);
+    Ok(labels?)
+}
+
+/// The same of what was done to this cluster.
+#[tactic(auto, using(crate::proofs::Labelled::labelled, crate::proofs::Labelled::further, crate::proofs::Labelled::stopped))]
+fn labels_in(
+    alloc: Global,
+    cluster: &mut Cluster,
+    deeds: &[Deed],
+    stops: bool,
+) -> Result<Vec<Label>, AllocError>
+    ensures { (c : Config) → cluster.old ≡ new_course c → IfOk result (λ labels. AreLabelsOf stops c deeds.now labels.items) }
+{
     let mut labels = Vec::new(alloc);
     for place in 0..deeds.len() {
-        push_deed(&mut labels, place as u64 + 1, &cluster, &deeds[place])?;
-        follow(&mut cluster, &deeds[place])?;
+        push_deed(&mut labels, place as u64 + 1, cluster, &deeds[place])?;
+        follow(cluster, &deeds[place])?;
     }
-    push_stop(&mut labels, deeds.len() as u64, &cluster, stops)?;
+    push_stop(&mut labels, deeds.len() as u64, cluster, stops)?;
     Ok(labels)
 }
 
@@ -304,10 +321,4 @@ fn wrong_note(note: &Note) -> Result<Wrong, AllocError>
         Note::Repeated(message) => Ok(Wrong::Repeated(*message)),
         Note::Erred(mishap) => Ok(Wrong::Erred(copy(mishap)?)),
     }
-}
-
-fn copy(bytes: &Bytes) -> Result<Bytes, AllocError>
-    ensures { IfOk result (λ copied. copied ≡ bytes.now) }
-{
-    bytes.clone()
 }

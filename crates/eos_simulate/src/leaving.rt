@@ -21,9 +21,10 @@ use crate::making::{SimulationFault, told_to};
 use crate::mistake::mistakes_of;
 use crate::replaying::ReplayFault;
 use crate::schedule_file::{Unread, read_schedule};
+use crate::shrunk_file::begun_at;
 use eos_disk::{
-    ChangeFault, DiskMut, FolderFault, NewFile, WritingFault, Written, begin_file, drop_file,
-    make_folder, write_whole,
+    ChangeFault, DiskMut, FolderFault, NewFile, WritingFault, Written, drop_file, make_folder,
+    write_whole,
 };
 use eos_ending::leave_file;
 use eos_evidence::Evidence;
@@ -61,15 +62,6 @@ pub enum Unsimulated {
     Unleft(Unleft),
     /// All is left, and a front of the line was written.
     CannotPrint,
-}
-
-impl Unleft {
-    fn of_reading(fault: Unread) -> Unleft {
-        match fault {
-            Unread::File(fault) => Unleft::Unread(fault),
-            Unread::Refused(fault) => Unleft::Refused(fault),
-        }
-    }
 }
 
 // ---- the folder and the run
@@ -161,7 +153,8 @@ fn make_asked<D: DiskMut, R: Read>(
     };
     match read_schedule(alloc, &*disk, path, input) {
         Ok(schedule) => make_by_lines(alloc, disk, words, &schedule, written),
-        Err(fault) => Err(Unleft::of_reading(fault)),
+        Err(Unread::File(fault)) => Err(Unleft::Unread(fault)),
+        Err(Unread::Refused(fault)) => Err(Unleft::Refused(fault)),
     }
 }
 
@@ -193,8 +186,7 @@ fn make<D: DiskMut, R: Read>(
 
 // ---- the history and the evidence
 
-/// Begins the file of the history, or of the labels, if one is wanted. A path names no file where it is empty or ends in a slash, whatever
-/// stands there.
+/// Begins the file of the history, or of the labels, if one is wanted.
 fn begun<D: DiskMut>(
     alloc: Global,
     disk: &mut D,
@@ -205,13 +197,7 @@ fn begun<D: DiskMut>(
     let Some(path) = path else {
         return Ok(None);
     };
-    if path.is_empty() {
-        return Err(ChangeFault::NoFolder);
-    }
-    if path.ends_with('/') {
-        return Err(ChangeFault::Refused);
-    }
-    match begin_file(alloc, disk, path) {
+    match begun_at(alloc, disk, path) {
         Ok(file) => Ok(Some(file)),
         Err(fault) => Err(fault),
     }
@@ -292,11 +278,7 @@ fn leave<D: DiskMut, R: Read>(
             return Err(Unleft::Labels(fault));
         }
     };
-    let Made {
-        evidence,
-        history,
-        labels,
-    } = match make(alloc, disk, words, input, written) {
+    let made = match make(alloc, disk, words, input, written) {
         Ok(made) => made,
         Err(why) => {
             dropped(alloc, disk, other);
@@ -304,17 +286,21 @@ fn leave<D: DiskMut, R: Read>(
             return Err(why);
         }
     };
-    if let Err(fault) = ended(alloc, disk, other, labels) {
+    if let Err(fault) = ended(alloc, disk, other, made.labels) {
         dropped(alloc, disk, file);
+        drop(made.evidence);
         return Err(Unleft::Labels(fault));
     }
-    if let Err(fault) = ended(alloc, disk, file, history) {
+    if let Err(fault) = ended(alloc, disk, file, made.history) {
         take_away(alloc, disk, words.labels);
         return Err(Unleft::History(fault));
     }
-    match write_last(alloc, disk, words, &evidence, written) {
-        Ok(()) => Ok(evidence),
-        Err(why) => Err(why),
+    match write_last(alloc, disk, words, &made.evidence, written) {
+        Ok(()) => Ok(made.evidence),
+        Err(why) => {
+            drop(made.evidence);
+            Err(why)
+        }
     }
 }
 
@@ -367,5 +353,7 @@ pub fn simulate_to<D: DiskMut, R: Read, W: Write>(
             return Err(Unsimulated::Unleft(why));
         }
     };
-    tell(alloc, &evidence, writer)
+    let told = tell(alloc, &evidence, writer);
+    drop(evidence);
+    told
 }

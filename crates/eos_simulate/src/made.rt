@@ -1,7 +1,7 @@
 //! What a run makes: the evidence, and the texts of its history and of its labels.
 
 ghost use Rattle.std.specs.Prelude.{IfOk, option_map, string_bytes};
-ghost use Rattle.eos_simulate.specs.Folders.{IsOfScript, IsOfLines};
+ghost use Rattle.eos_simulate.specs.Folders.{IsOfScript, IsOfLines, AreTextsOf};
 ghost use Rattle.eos_simulate.specs.HistoryTexts.{IsHistoryIf};
 ghost use Rattle.eos_simulate.specs.steps.Heads.{head_of};
 
@@ -42,13 +42,17 @@ pub(crate) fn by_script(
 {
     let mut history = History::new(alloc);
     let evidence = simulate(alloc, course, &mut history)?;
-    let labels = labels_if(alloc, keeps.labels, course.config, &history, course.stops)?;
-    let history = text_if(alloc, keeps.history, &course.head(), &history)?;
-    Ok(Made {
-        evidence,
-        history,
-        labels,
-    })
+    match texts_of(alloc, keeps, &course.head(), &history, course.stops) {
+        Ok(texts) => Ok(Made {
+            evidence,
+            history: texts.0,
+            labels: texts.1,
+        }),
+        Err(fault) => {
+            drop(evidence);
+            Err(fault)
+        }
+    }
 }
 
 /// What the lines of a schedule leave.
@@ -66,17 +70,32 @@ pub(crate) fn by_lines(
         Ok(evidence) => evidence,
         Err(fault) => return Err(fault),
     };
-    let Ok(labels) = labels_if(alloc, keeps.labels, schedule.head.config, &history, stops) else {
-        return Err(ReplayFault::OutOfMemory);
-    };
-    match text_if(alloc, keeps.history, &schedule.head, &history) {
-        Ok(history) => Ok(Made {
+    match texts_of(alloc, keeps, &schedule.head, &history, stops) {
+        Ok(texts) => Ok(Made {
             evidence,
-            history,
-            labels,
+            history: texts.0,
+            labels: texts.1,
         }),
-        Err(_) => Err(ReplayFault::OutOfMemory),
+        Err(_) => {
+            drop(evidence);
+            Err(ReplayFault::OutOfMemory)
+        }
     }
+}
+
+/// The texts of a history, and of its labels, that are wanted.
+fn texts_of(
+    alloc: Global,
+    keeps: WantedTexts,
+    head: &Head,
+    history: &History,
+    stops: bool,
+) -> Result<(Option<String>, Option<String>), SimulationFault>
+    ensures { IfOk result (λ texts. AreTextsOf keeps head.now head.now.config stops history.now (option_map string_bytes texts.0, option_map string_bytes texts.1)) }
+{
+    let labels = labels_if(alloc, keeps.labels, head.config, history, stops)?;
+    let history = text_if(alloc, keeps.history, head, history)?;
+    Ok((history, labels))
 }
 
 /// The text of a history, if it is wanted.

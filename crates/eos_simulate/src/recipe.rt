@@ -1,56 +1,87 @@
 //! What the index of many folders says of one: where it lies, and the words that make it again.
 
+use crate::label_lines::value_of;
 use eos_words::{Simulation, Sizes, Thousandths};
 use serde_json::{Map, Value};
 use std::alloc::{AllocError, Global};
 
 /// The line of an index about this folder, with its line feed.
 pub(crate) fn index_line(alloc: Global, words: &Simulation<'_>) -> Result<String, AllocError> {
-    let mut members = Map::new(alloc);
-    put(alloc, &mut members, "folder", text(alloc, words.folder)?)?;
-    if let Some(labels) = words.labels {
-        put(alloc, &mut members, "labels", text(alloc, labels)?)?;
-    }
-    put(
-        alloc,
-        &mut members,
-        "words",
-        Value::Array(recipe(alloc, words)?),
-    )?;
-    let mut line = Value::Object(members).to_string(alloc)?;
+    let value = index_of(alloc, words)?;
+    let text = value.to_string(alloc);
+    drop(value);
+    let mut line = text?;
     line.push_str("\n")?;
     Ok(line)
 }
 
+fn index_of(alloc: Global, words: &Simulation<'_>) -> Result<Value, AllocError> {
+    let mut members = Map::new(alloc);
+    match put_all(alloc, &mut members, words) {
+        Ok(()) => Ok(Value::Object(members)),
+        Err(fault) => {
+            drop(members);
+            Err(fault)
+        }
+    }
+}
+
+fn put_all(
+    alloc: Global,
+    members: &mut Map<String, Value>,
+    words: &Simulation<'_>,
+) -> Result<(), AllocError> {
+    put(alloc, members, "folder", value_of(alloc, words.folder))?;
+    if let Some(labels) = words.labels {
+        put(alloc, members, "labels", value_of(alloc, labels))?;
+    }
+    put(alloc, members, "words", recipe(alloc, words))
+}
+
+/// Puts a member, where its value could be made.
 fn put(
     alloc: Global,
     members: &mut Map<String, Value>,
     name: &str,
-    value: Value,
+    value: Result<Value, AllocError>,
 ) -> Result<(), AllocError> {
-    members.insert(String::from_str(alloc, name)?, value)?;
-    Ok(())
-}
-
-fn text(alloc: Global, text: &str) -> Result<Value, AllocError> {
-    Ok(Value::String(String::from_str(alloc, text)?))
+    let value = value?;
+    match String::from_str(alloc, name) {
+        Ok(name) => {
+            let before = members.insert(name, value)?;
+            drop(before);
+            Ok(())
+        }
+        Err(fault) => {
+            drop(value);
+            Err(fault)
+        }
+    }
 }
 
 /// The words of the command line, without the folder.
-fn recipe(alloc: Global, words: &Simulation<'_>) -> Result<Vec<Value>, AllocError> {
+fn recipe(alloc: Global, words: &Simulation<'_>) -> Result<Value, AllocError> {
     let mut said = Vec::new(alloc);
-    push_number(alloc, &mut said, "--seed", Some(words.seed))?;
-    push_number(alloc, &mut said, "--events", Some(words.events))?;
-    push_sizes(alloc, &mut said, words.sizes)?;
-    push_rates(alloc, &mut said, words.rates)?;
-    push_flag(alloc, &mut said, "--links", words.links)?;
-    push_each(alloc, &mut said, "--switch", words.switches.as_slice())?;
-    push_number(alloc, &mut said, "--switch-at", words.switch_at)?;
-    push_flag(alloc, &mut said, "--no-tail", words.no_tail)?;
-    push_each(alloc, &mut said, "--mishap", words.mishaps.as_slice())?;
-    push_flag(alloc, &mut said, "--stop-anywhere", words.stop_anywhere)?;
-    push_each(alloc, &mut said, "--collect", words.mistakes.as_slice())?;
-    Ok(said)
+    push_recipe(alloc, &mut said, words)?;
+    Ok(Value::Array(said))
+}
+
+fn push_recipe(
+    alloc: Global,
+    said: &mut Vec<Value>,
+    words: &Simulation<'_>,
+) -> Result<(), AllocError> {
+    push_number(alloc, said, "--seed", Some(words.seed))?;
+    push_number(alloc, said, "--events", Some(words.events))?;
+    push_sizes(alloc, said, words.sizes)?;
+    push_rates(alloc, said, words.rates)?;
+    push_flag(alloc, said, "--links", words.links)?;
+    push_each(alloc, said, "--switch", words.switches.as_slice())?;
+    push_number(alloc, said, "--switch-at", words.switch_at)?;
+    push_flag(alloc, said, "--no-tail", words.no_tail)?;
+    push_each(alloc, said, "--mishap", words.mishaps.as_slice())?;
+    push_flag(alloc, said, "--stop-anywhere", words.stop_anywhere)?;
+    push_each(alloc, said, "--collect", words.mistakes.as_slice())
 }
 
 fn push_sizes(alloc: Global, said: &mut Vec<Value>, sizes: Sizes) -> Result<(), AllocError> {
@@ -91,7 +122,7 @@ fn push_number(
     let Some(number) = number else {
         return Ok(());
     };
-    said.push(text(alloc, name)?)?;
+    said.push(value_of(alloc, name)?)?;
     said.push(Value::String(format!(in alloc; "{number}")?))?;
     Ok(())
 }
@@ -103,8 +134,8 @@ fn push_each(
     each: &[&str],
 ) -> Result<(), AllocError> {
     for it in each {
-        said.push(text(alloc, name)?)?;
-        said.push(text(alloc, it)?)?;
+        said.push(value_of(alloc, name)?)?;
+        said.push(value_of(alloc, it)?)?;
     }
     Ok(())
 }
@@ -116,7 +147,7 @@ fn push_flag(
     is_said: bool,
 ) -> Result<(), AllocError> {
     if is_said {
-        said.push(text(alloc, name)?)?;
+        said.push(value_of(alloc, name)?)?;
     }
     Ok(())
 }

@@ -86,9 +86,12 @@ pub fn replay(
         Err(fault) => return Err(fault),
     };
     if let Err(fault) = compare_totals(alloc, schedule.tail, history) {
+        drop(cluster);
         return Err(fault);
     }
-    match evidence_of(&cluster, stops) {
+    let evidence = evidence_of(&cluster, stops);
+    drop(cluster);
+    match evidence {
         Ok(evidence) => Ok(evidence),
         Err(fault) => Err(refused(fault)),
     }
@@ -110,7 +113,10 @@ fn replayed(
     };
     match take_lines(&mut cluster, history, schedule.lines.as_slice()) {
         Ok(()) => Ok(cluster),
-        Err(fault) => Err(fault),
+        Err(fault) => {
+            drop(cluster);
+            Err(fault)
+        }
     }
 }
 

@@ -249,7 +249,11 @@ fn judged<R: Threads + Sync>(
     ensures done { history.old ≡ [] → OnOk result (acts_of history.new ≡ acts_said schedule.now.lines) }
 {
     match replay(alloc, schedule, history, false) {
-        Ok(evidence) => Ok(check_one(alloc, rt, &evidence)?),
+        Ok(evidence) => {
+            let verdict = check_one(alloc, rt, &evidence);
+            drop(evidence);
+            Ok(verdict?)
+        }
         Err(fault) => Err(ShrinkFault::Unreplayed(fault)),
     }
 }

@@ -39,18 +39,9 @@ struct Small {
     line: String,
 }
 
-impl Unshrunk {
-    fn of_reading(fault: Unread) -> Unshrunk {
-        match fault {
-            Unread::File(fault) => Unshrunk::Unread(fault),
-            Unread::Refused(fault) => Unshrunk::Refused(fault),
-        }
-    }
-}
-
 /// Begins the file. A path names none where it is empty or ends in a slash, whatever stands there.
 #[tactic(auto, using(crate::proofs::ShrunkFiles::unbegun, crate::proofs::ShrunkFiles::nothing))]
-fn begun<D: DiskMut>(
+pub(crate) fn begun_at<D: DiskMut>(
     alloc: Global,
     disk: &mut D,
     path: &str,
@@ -108,7 +99,8 @@ fn read_made<D: DiskMut, R: Read, T: Threads + Sync>(
 {
     let schedule = match read_schedule(alloc, disk, words.history, input) {
         Ok(schedule) => schedule,
-        Err(fault) => return Err(Unshrunk::of_reading(fault)),
+        Err(Unread::File(fault)) => return Err(Unshrunk::Unread(fault)),
+        Err(Unread::Refused(fault)) => return Err(Unshrunk::Refused(fault)),
     };
     match made(alloc, rt, &schedule, words.code) {
         Ok(small) => Ok(small),
@@ -132,7 +124,7 @@ pub fn shrink_file<D: DiskMut, R: Read, T: Threads + Sync>(
     ensures ok { IfOk result (λ line. IsShrunkFile words.now (R.remaining input.old) (R.remaining input.new) (D.holds disk.old) (D.holds disk.new) (string_bytes line)) }
     ensures err { OnErr result (Stays (D.holds disk.old) words.now.file.now (D.holds disk.new)) }
 {
-    let file = match begun(alloc, disk, words.file) {
+    let file = match begun_at(alloc, disk, words.file) {
         Ok(file) => file,
         Err(fault) => return Err(Unshrunk::File(fault)),
     };

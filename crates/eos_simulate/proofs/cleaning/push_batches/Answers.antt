@@ -1,5 +1,4 @@
-use Rattle.std.proofs.Common.{◌≡◌, ◌-◌, ◌+◌, suc, [], ◌∷◌, ◌++◌, arith, refl, ap, ◌∙◌}
-use Rattle.eos_simulate.specs.declared.cleaning.Logged.{Logged}
+use Rattle.std.proofs.Common.{◌≡◌, ◌-◌, ◌+◌, suc, arith, refl, ◌∙◌}
 use Rattle.eos_simulate.proofs.CleanedLogs.{all_logged, one_logged}
 use Rattle.eos_simulate.proofs.cleaning.push_batches.Goals as goal
 
@@ -12,5 +11,5 @@ loop-preserved c =
     let further = rw c.in-Ok.is at c.in_ok-batch.ensures.further in
     record {
       inside = further.1;
-      so_far = one_logged _ _ _ _ _ _ _ _ _ _ _ more (c.in_ok-batch.ensures.read ∙ c.in-Ok.is) refl (c.in_ok-push-in-Ok.ensures.items ∙ ap (λ (x : Logged). c.loop.log.items ++ x ∷ []) c.in_ok-logged_at-in-Ok.ensures) c.loop.invariant.so_far;
+      so_far = one_logged _ _ _ _ _ _ _ _ _ _ _ more (c.in_ok-batch.ensures.read ∙ c.in-Ok.is) refl c.in_ok-push_batch-in-Ok.ensures c.loop.invariant.so_far;
     }

@@ -1,6 +1,6 @@
 use Rattle.std.proofs.Common.{◌+◌}
 use Rattle.eos_simulate.proofs.ShrunkParts.{line_passed}
-use Rattle.eos_simulate.proofs.cutting.cut.Goals as goal
+use Rattle.eos_simulate.proofs.cutting.lines_left.Goals as goal
 
 pub loop-place-preserved : goal.loop-place-preserved
 loop-place-preserved c =
